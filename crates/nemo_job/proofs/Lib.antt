@@ -1,0 +1,4 @@
+pub mod ChainMean
+pub mod Lookups
+pub mod NewNames
+pub mod Plain

@@ -1,0 +1,15 @@
+use Rattle.std.proofs.Common.{◌≡◌, List, ℕ, [], drop}
+use Rattle.std.specs.Cmp.Lexicographic.{slice_cmp}
+use Rattle.std.specs.List.{list_any}
+use Rattle.std.specs.Ordering.{nat_cmp, is_eq}
+use Rattle.nemo_job.specs.Chain.{all_new, names_of}
+use Rattle.nemo_job.specs.Mean.{same_text}
+use Rattle.nemo_job.proofs.NewNames.{seen_at}
+use Rattle.nemo_job.proofs.chain.names_differ.Given as goal
+
+-- so far all were new, and the set has just these
+abbrev pub invariant-loop-v : goal.invariant-loop-v
+invariant-loop-v l = record {
+  new : all_new (seen_at l.v-index (names_of l.vertices)) (drop l.v-index (names_of l.vertices)) ≡ all_new [] (names_of l.vertices);
+  same : (q : List ℕ) → list_any (λ k. is_eq (slice_cmp nat_cmp q k.now)) l.seen.keys ≡ list_any (same_text q) (seen_at l.v-index (names_of l.vertices));
+}

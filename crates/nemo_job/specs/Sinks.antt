@@ -1,0 +1,51 @@
+-- What a job gives to its sinks.
+use Rattle.std.specs.Prelude.{ℕ, List, map, position, unwrap_or, Bool, true, false, filter}
+use Rattle.std.specs.List.{flat_map}
+use Rattle.std.specs.Ordering.{nat_cmp, ordering_then}
+use Rattle.std.specs.declared.cmp.Ordering.{Ordering}
+use Rattle.nemo_value.specs.Ascending.{ascending}
+use Rattle.nemo_value.specs.KindOrder.{kind_cmp}
+use Rattle.nemo_value.specs.Order.{record_cmp, text_cmp}
+use Rattle.nemo_value.specs.Sorting.{sorted}
+use Rattle.nemo_value.specs.declared.record.SinkRows.{SinkRows}
+use Rattle.nemo_transform.specs.declared.transform.Transform.TheVariants.{Sink}
+use Rattle.nemo_job.specs.Flow.{Flow, Arisen}
+use Rattle.nemo_job.specs.Mean.{mean, look, same_text}
+use Rattle.nemo_job.specs.Paths.{paths}
+use Rattle.nemo_job.specs.declared.vertex.JobVertex.{JobVertex}
+use Rattle.nemo_job.specs.declared.vertex.Work.{Work}
+use Rattle.nemo_job.specs.declared.vertex.Work.TheVariants.{Op}
+
+abbrev pub is_sink : Work → Bool
+is_sink (Op (Sink name)) = true
+is_sink _ = false
+
+-- the sinks of a job, in list order
+abbrev pub sinks_of : List JobVertex → List JobVertex
+sinks_of vs = filter (λ v. is_sink v.work) vs
+
+-- what reaches a vertex of this name
+abbrev pub reaching : List JobVertex → JobVertex → Flow
+reaching vs v = look (mean vs) (record { name = v.name; port = 0 })
+
+abbrev pub sink_rows : List JobVertex → JobVertex → SinkRows
+sink_rows vs v = record { name = v.name; rows = sorted record_cmp (reaching vs v).rows }
+
+abbrev pub by_name : SinkRows → SinkRows → Ordering
+by_name a b = text_cmp a.name b.name
+
+-- each sink with its rows in order, the sinks by name
+abbrev pub job_rows : List JobVertex → List SinkRows
+job_rows vs = sorted by_name (map (sink_rows vs) (sinks_of vs))
+
+-- the place of a copy in the order of evaluation
+abbrev pub place_of : List (List ℕ) → List ℕ → ℕ
+place_of all path = unwrap_or (position (same_text path) all) 0
+
+-- by the copy where it arose, and then by kind and record
+abbrev pub arisen_cmp : List (List ℕ) → Arisen → Arisen → Ordering
+arisen_cmp all a b = ordering_then (nat_cmp (place_of all a.path) (place_of all b.path)) (ordering_then (kind_cmp a.kind b.kind) (record_cmp a.rec b.rec))
+
+-- the faults that reach a sink, in this order, each once
+abbrev pub job_faults : List JobVertex → List Arisen
+job_faults vs = ascending (arisen_cmp (paths vs)) (flat_map (λ v. (reaching vs v).faults) (sinks_of vs))

@@ -1,0 +1,52 @@
+ghost use Rattle.std.specs.Prelude.{◌≡◌, ◌++◌, OnOk, IfOk};
+ghost use Rattle.std.specs.List.{flat_map};
+ghost use Rattle.nemo_report.specs.Texts.{head_of, line_of, sinks_text};
+ghost use Rattle.nemo_report.specs.Texts as spec;
+
+use crate::lines::line_in;
+use nemo_value::{List, NoMemory, Record, SinkRows};
+use std::alloc::Global;
+
+/// Appends the first line of a sink: its name and the number of its rows.
+fn push_head(alloc: Global, out: &mut Vec<u8>, sink: &SinkRows) -> Result<(), NoMemory>
+    ensures { OnOk result (out.new.items ≡ out.old.items ++ head_of sink.now) }
+{
+    let count = sink.rows.len().to_string(alloc)?;
+    out.extend_from_slice(b"sink ")?;
+    out.extend_from_slice(sink.name.as_str().as_bytes())?;
+    out.push(b' ')?;
+    out.extend_from_slice(count.as_bytes())?;
+    out.push(b'\n')?;
+    Ok(())
+}
+
+/// Appends the lines of the rows.
+fn push_rows(alloc: Global, out: &mut Vec<u8>, rows: &List<Record>) -> Result<(), NoMemory>
+    ensures { OnOk result (out.new.items ≡ out.old.items ++ flat_map line_of rows.now) }
+{
+    // A new `Writer` fills up to 16 KiB behind a long text, which costs more than the copy of a line.
+    let mut line = Vec::new(alloc);
+    for row in rows.as_slice() {
+        line = line_in(line, row)?;
+        out.extend_from_slice(line.as_slice())?;
+    }
+    Ok(())
+}
+
+fn push_sink(alloc: Global, out: &mut Vec<u8>, sink: &SinkRows) -> Result<(), NoMemory>
+    ensures { OnOk result (out.new.items ≡ out.old.items ++ spec.sink_text sink.now) }
+{
+    push_head(alloc, out, sink)?;
+    push_rows(alloc, out, &sink.rows)
+}
+
+/// The text of the sinks, in their order. For each sink the line `sink NAME COUNT`, where `COUNT` is the number of its rows in decimal, and then a line for each row, in order: its fields as a compact JSON array. Each line ends with a newline. Equal rows stand as often as they come.
+pub fn sink_text(alloc: Global, sinks: &List<SinkRows>) -> Result<Vec<u8>, NoMemory>
+    ensures { IfOk result (λ text. text.items ≡ sinks_text sinks.now) }
+{
+    let mut out = Vec::new(alloc);
+    for sink in sinks.as_slice() {
+        push_sink(alloc, &mut out, sink)?;
+    }
+    Ok(out)
+}

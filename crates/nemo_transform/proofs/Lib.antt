@@ -1,0 +1,3 @@
+pub mod FaultOrders
+pub mod MapSteps
+pub mod Rows

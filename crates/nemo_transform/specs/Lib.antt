@@ -1,0 +1,3 @@
+pub mod FaultOrder
+pub mod Gives
+pub mod Ports

@@ -1,0 +1,7 @@
+pub mod AscendingLists
+pub mod KindPlaces
+pub mod LowHash
+pub mod Members
+pub mod Perm
+pub mod RecordOrder
+pub mod SortedLists

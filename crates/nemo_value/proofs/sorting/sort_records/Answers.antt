@@ -1,0 +1,12 @@
+use Rattle.std.proofs.Common.{◌∙◌, subst}
+use Rattle.std.specs.List.Sorted.{IsPermutation}
+use Rattle.nemo_value.specs.Order.{record_cmp}
+use Rattle.nemo_value.proofs.RecordOrder.{record_strict}
+use Rattle.nemo_value.proofs.SortedLists.{sorted_only}
+use Rattle.nemo_value.proofs.sorting.sort_records.Goals as goal
+
+pub returns : goal.returns
+returns c =
+    let all = c.sort.new.self.items in
+    let moved : IsPermutation c.args.rows all = subst (λ rows. IsPermutation rows all) c.into_vec-rows.ensures c.in_ok-sort.ensures.permutation in
+    c.from_vec.ensures ∙ sorted_only record_cmp record_strict c.args.rows all moved c.in_ok-sort.ensures.sorted

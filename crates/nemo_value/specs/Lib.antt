@@ -1,0 +1,10 @@
+pub mod Answers
+pub mod Ascending
+pub mod Bucket
+pub mod FieldOrder
+pub mod KindOrder
+pub mod Names
+pub mod Order
+pub mod Sorting
+pub mod Texts
+pub mod Val

@@ -1,0 +1,86 @@
+use crate::field::Field;
+use crate::memory::NoMemory;
+use crate::same::Same;
+use crate::try_copy::TryCopy;
+use sqlite_items::Boxed;
+use std::alloc::Global;
+
+/// An operator of two operands. `Same` answers whether they are equal, and `Cat` joins two texts.
+#[derive(Clone, Copy, Debug, PartialEq, Eq)]
+pub enum Oper {
+    Add,
+    Sub,
+    Mul,
+    Div,
+    Rem,
+    Less,
+    Same,
+    Cat,
+}
+
+/// An expression over a record: a field by its place from 0, a constant, an operator of two operands, a choice
+/// (the second operand where the first isn't 0, else the third), or the number of bytes of a text.
+#[derive(Debug, Drop)]
+pub enum Expr {
+    Get(u32),
+    Const(Field),
+    Pair(Oper, Boxed<Expr>, Boxed<Expr>),
+    If(Boxed<Expr>, Boxed<Expr>, Boxed<Expr>),
+    Len(Boxed<Expr>),
+}
+
+/// Why an expression has no value, or a transform no row: a zero divisor, a number beyond 64 bits, an operand of
+/// the wrong type, a field that isn't there, too many fields, too many bytes. The kinds are ordered as they stand.
+#[derive(Clone, Copy, Debug, PartialEq, Eq, PartialOrd, Ord)]
+pub enum Kind {
+    DivZero,
+    Overflow,
+    Typed,
+    NoField,
+    Wide,
+    Long,
+}
+
+impl TryCopy for Expr {
+    fn copy(&self, alloc: Global) -> Result<Expr, NoMemory> {
+        match self {
+            Expr::Get(place) => Ok(Expr::Get(*place)),
+            Expr::Const(field) => Ok(Expr::Const(field.copy(alloc)?)),
+            Expr::Pair(oper, a, b) => {
+                let first = Boxed::new(alloc, a.get().copy(alloc)?)?;
+                let second = Boxed::new(alloc, b.get().copy(alloc)?)?;
+                Ok(Expr::Pair(*oper, first, second))
+            }
+            Expr::If(test, a, b) => {
+                let test = Boxed::new(alloc, test.get().copy(alloc)?)?;
+                let first = Boxed::new(alloc, a.get().copy(alloc)?)?;
+                let second = Boxed::new(alloc, b.get().copy(alloc)?)?;
+                Ok(Expr::If(test, first, second))
+            }
+            Expr::Len(a) => Ok(Expr::Len(Boxed::new(alloc, a.get().copy(alloc)?)?)),
+        }
+    }
+}
+
+impl Same for Oper {
+    fn same(&self, other: &Oper) -> bool {
+        self == other
+    }
+}
+
+impl Same for Expr {
+    fn same(&self, other: &Expr) -> bool {
+        match (self, other) {
+            (Expr::Get(j), Expr::Get(k)) => j == k,
+            (Expr::Const(x), Expr::Const(y)) => x.same(y),
+            (Expr::Pair(o, a, b), Expr::Pair(p, c, d)) => {
+                o.same(p) && a.get().same(c.get()) && b.get().same(d.get())
+            }
+            (Expr::If(t, a, b), Expr::If(u, c, d)) => {
+                t.get().same(u.get()) && a.get().same(c.get()) && b.get().same(d.get())
+            }
+            (Expr::Len(a), Expr::Len(b)) => a.get().same(b.get()),
+            _ => false,
+        }
+    }
+}

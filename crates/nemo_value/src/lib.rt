@@ -1,0 +1,29 @@
+//! Values: fields, texts, names, records and expressions, with the lists that hold them.
+#![tactic(auto)]
+
+mod bucket;
+mod evaluate;
+mod expr;
+mod field;
+mod list;
+mod memory;
+mod name;
+mod record;
+mod same;
+mod sorting;
+mod text;
+mod try_copy;
+
+pub use bucket::bucket_of;
+pub use evaluate::{EvalFault, eval};
+pub use expr::{Expr, Kind, Oper};
+pub use field::Field;
+pub use list::List;
+pub use memory::NoMemory;
+pub use name::{Name, NameRefused};
+pub use record::{BadWidth, Record, SinkRows};
+pub use same::Same;
+pub use sorting::{sort_law, sort_records};
+pub use sqlite_items::{Boxed, Items};
+pub use text::{LongText, Text};
+pub use try_copy::TryCopy;
