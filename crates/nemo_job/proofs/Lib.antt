@@ -1,3 +1,4 @@
+pub mod Batches
 pub mod ChainMean
 pub mod Lookups
 pub mod NewNames

@@ -31,12 +31,13 @@ impl From<NoMemory> for JobEnd {
     }
 }
 
-/// What the job gives to its sinks: for each, by name, its rows in order, where no fault reaches a sink. A job of now
-/// has no fault.
+/// What the job gives to its sinks: for each, by name, its rows in order, where no fault reaches a sink. In a chain
+/// none arises.
 pub fn eval_job(alloc: Global, job: &Job) -> Result<Vec<SinkRows>, JobEnd>
     ensures rows { IfOk result (λ sinks. sinks.items ≡ job_rows job.now) }
     ensures sound { IfOk result (λ sinks. job_faults job.now ≡ []) }
     ensures end { IfErr result (IsEndOf job.now) }
+    ensures faultless { IfErr result (λ e. e ≡ JobEnd.NoMemory) }
 {
     let sink = eval_chain(alloc, job.vertices().as_slice())?;
     Ok(one_sink(alloc, sink)?)
@@ -72,10 +73,11 @@ fn eval_sink(
     ensures rows { IfOk result (λ sink. job_rows (source.now ∷ (maps.now ++ last.now ∷ [])) ≡ sink ∷ []) }
     ensures sound { IfOk result (λ sink. job_faults (source.now ∷ (maps.now ++ last.now ∷ [])) ≡ []) }
 {
+    let name = last.name.copy(alloc)?;
     let rows = chain_rows(alloc, source_rows(&source.work), maps)?;
     Ok(SinkRows {
-        name: last.name.copy(alloc)?,
-        rows: sort_records(rows)?,
+        name,
+        rows: sort_records(rows),
     })
 }
 
@@ -101,7 +103,10 @@ fn own_rows(transform: &Transform) -> &[Record]
     }
 }
 
-/// The source's rows after all maps. Of each layer of rows only the next is made from it, and then it is dropped.
+/// How many rows go through the maps at a time, so that what stands between two maps stays small.
+const BATCH: usize = 256;
+
+/// The source's rows after all maps.
 fn chain_rows(
     alloc: Global,
     source: &[Record],
@@ -110,10 +115,26 @@ fn chain_rows(
     requires { AllPass does_map maps.now }
     ensures { IfOk result (λ rows. rows ≡ rows_through maps.now source.now) }
 {
+    let mut rows = Vec::with_capacity(alloc, source.len())?;
+    let mut left = source;
+    while !left.is_empty() {
+        let (batch, others) = left.split_at(left.len().min(BATCH));
+        let given = batch_rows(alloc, batch, maps)?;
+        rows.append(&mut given.into_vec())?;
+        left = others;
+    }
+    Ok(List::from_vec(rows))
+}
+
+/// The rows of a batch after all maps. Of each layer of rows only the next is made from it, and then it is dropped.
+fn batch_rows(alloc: Global, batch: &[Record], maps: &[JobVertex]) -> Result<List<Record>, NoMemory>
+    requires { AllPass does_map maps.now }
+    ensures { IfOk result (λ rows. rows ≡ rows_through maps.now batch.now) }
+{
     let Some((first, others)) = maps.split_first() else {
-        return List::from_slice(alloc, source);
+        return List::from_slice(alloc, batch);
     };
-    let mut rows = map_rows(alloc, &first.work, source)?;
+    let mut rows = map_rows(alloc, &first.work, batch)?;
     for v in others {
         rows = map_rows(alloc, &v.work, rows.as_slice())?;
     }

@@ -26,7 +26,7 @@ one_order = λ i a b. fault_cmp_is a b i
 fault_total : IsTotalOrder fault_cmp
 fault_total =
     total (then_po (partial_order_from_total (on_total (λ (f : Fault). kind_place f.kind) nat_cmp_total)) (partial_order_from_total (on_total (λ (f : Fault). f.rec) record_strict.total)))
-        (then_agrees (λ a b. refl) (λ a b. refl))
+    (then_agrees (λ a b. refl) (λ a b. refl))
 
 -- the first of two orders ties where both do, and then the second does
 first_ties : (r s : Ordering) → ordering_then r s ≡ Equal → r ≡ Equal

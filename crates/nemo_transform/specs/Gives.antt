@@ -153,7 +153,7 @@ unless (f ∷ fs) answers = f ∷ fs
 abbrev pub reduced : Folding → ℕ → Field → List Row → List Answer
 reduced by field k rows =
     unless (filter_map (λ r. bad r (read by (slice_get r field))) rows)
-        (folded by k (filter_map (λ r. good (read by (slice_get r field))) rows))
+    (folded by k (filter_map (λ r. good (read by (slice_get r field))) rows))
 
 -- the left fields, and then the right ones from field 1
 abbrev pub pair : Row → Row → Answer

@@ -37,14 +37,17 @@ module _ {K : Type 0} (R : K → K → Ordering) (o : IsStrict R) where
       go : In z (insert_key R ys x) ↔ (z ≡ x) ⊎ In z ys → (r : Ordering) → R x y ≡ r → In z (match_ordering r (x ∷ y ∷ ys) (y ∷ ys) (y ∷ insert_key R ys x)) ↔ (z ≡ x) ⊎ ((z ≡ y) ⊎ In z ys)
       go ih Less e = (λ h. h, λ h. h)
       go ih Equal e = (λ h. inr h, λ h. elim h [ inl a ↦ inl (a ∙ o.one x y e) | inr b ↦ b ])
-      go ih Greater e = (λ h. elim h [ inl a ↦ inr (inl a) | inr b ↦ elim (ih.0 b) [ inl c ↦ inl c | inr d ↦ inr (inr d) ] ],
-                      λ h. elim h [ inl a ↦ inr (ih.1 (inl a)) | inr b ↦ elim b [ inl c ↦ inl c | inr d ↦ inr (ih.1 (inr d)) ] ])
+      go ih Greater e = (
+        λ h. elim h [ inl a ↦ inr (inl a) | inr b ↦ elim (ih.0 b) [ inl c ↦ inl c | inr d ↦ inr (inr d) ] ],
+        λ h. elim h [ inl a ↦ inr (ih.1 (inl a)) | inr b ↦ elim b [ inl c ↦ inl c | inr d ↦ inr (ih.1 (inr d)) ] ],
+      )
 
   pub in_ascending : (xs : List K) (z : K) → In z (ascending R xs) ↔ In z xs
   in_ascending [] z = (λ h. h, λ h. h)
-  in_ascending (x ∷ xs) z =
-      (λ h. elim ((in_placed x (ascending R xs) z).0 h) [ inl a ↦ inl a | inr b ↦ inr ((in_ascending xs z).0 b) ],
-       λ h. (in_placed x (ascending R xs) z).1 (elim h [ inl a ↦ inl a | inr b ↦ inr ((in_ascending xs z).1 b) ]))
+  in_ascending (x ∷ xs) z = (
+    λ h. elim ((in_placed x (ascending R xs) z).0 h) [ inl a ↦ inl a | inr b ↦ inr ((in_ascending xs z).0 b) ],
+    λ h. (in_placed x (ascending R xs) z).1 (elim h [ inl a ↦ inl a | inr b ↦ inr ((in_ascending xs z).1 b) ]),
+  )
 
   pub before_less : (x y : K) (ys : List K) → R x y ≡ Less → Before R y ys → Before R x ys
   before_less x y [] e b = tt
@@ -70,8 +73,14 @@ module _ {K : Type 0} (R : K → K → Ordering) (o : IsStrict R) where
   apart_self x e = let turned : Less ≡ ordering_reverse Less = sym e ∙ o.total.antisymm x x ∙ ap ordering_reverse e in cc
 
   heads : (x y : K) (xs ys : List K) → Before R x xs → Before R y ys → SameMembers (x ∷ xs) (y ∷ ys) → x ≡ y
-  heads x y xs ys a b s = elim ((s.members x).0 (inl refl)) [ inl e ↦ e | inr m ↦ elim ((s.members y).1 (inl refl)) [ inl e ↦ sym e | inr n ↦
-      absurd (apart_self x (o.total.trans x y x (before_in x y xs a n) (before_in y x ys b m))) ] ]
+  heads x y xs ys a b s = elim ((s.members x).0 (inl refl)) [
+    | inl e ↦ e
+    | inr m ↦ elim ((s.members y).1 (inl refl)) [
+      | inl e ↦ sym e
+      | inr n ↦
+          absurd (apart_self x (o.total.trans x y x (before_in x y xs a n) (before_in y x ys b m)))
+    ]
+  ]
 
   rest : (x y : K) (xs ys : List K) → x ≡ y → Before R x xs → SameMembers (x ∷ xs) (y ∷ ys) → (z : K) → In z xs → In z ys
   rest x y xs ys e a s z m = elim ((s.members z).0 (inr m)) [ inl d ↦ absurd (apart_self x (subst (λ w. R x w ≡ Less) (d ∙ sym e) (before_in x z xs a m))) | inr n ↦ n ]

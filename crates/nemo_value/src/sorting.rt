@@ -1,20 +1,20 @@
-ghost use Rattle.std.specs.Prelude.{◌≡◌, List as Sequence, IfOk};
+ghost use Rattle.std.specs.Prelude.{◌≡◌, List as Sequence};
 ghost use Rattle.std.specs.List.Sorted.{IsSorted, IsPermutation};
 ghost use Rattle.nemo_value.specs.Order.{record_cmp};
 ghost use Rattle.nemo_value.specs.Sorting.{sorted};
 ghost use Rattle.nemo_value.specs.declared.field.Field.{Field};
 
 use crate::list::List;
-use crate::memory::NoMemory;
 use crate::record::Record;
 
-/// The records in ascending order, each as often as it comes.
-pub fn sort_records(rows: List<Record>) -> Result<List<Record>, NoMemory>
-    ensures { IfOk result (λ all. all ≡ sorted record_cmp rows) }
+/// The records in ascending order, each as often as it comes. Records that tie are equal, so the sort need not be
+/// stable, and it takes no memory.
+pub fn sort_records(rows: List<Record>) -> List<Record>
+    ensures { result ≡ sorted record_cmp rows }
 {
     let mut rows = rows.into_vec();
-    rows.sort()?;
-    Ok(List::from_vec(rows))
+    rows.sort_unstable();
+    List::from_vec(rows)
 }
 
 /// What `sorted` means for records: it has the same records, in order, and no other list has.

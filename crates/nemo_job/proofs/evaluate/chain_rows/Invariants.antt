@@ -1,12 +1,10 @@
-use Rattle.std.proofs.Common.{◌≡◌, drop}
-use Rattle.std.specs.List.{AllPass}
-use Rattle.nemo_job.specs.Chain.{does_map}
+use Rattle.std.proofs.Common.{◌≡◌, ◌++◌, length}
 use Rattle.nemo_job.specs.ChainRows.{rows_through}
 use Rattle.nemo_job.proofs.evaluate.chain_rows.Given as goal
 
--- the rows so far, through the maps that are left, are the rows through all
-abbrev pub invariant-loop-v : goal.invariant-loop-v
-invariant-loop-v l = record {
-  through : rows_through (drop l.v-index l.others) l.rows ≡ rows_through l.maps l.source;
-  mapping : AllPass does_map l.others;
-}
+-- the rows so far, and then those that are left through the maps, are all rows
+abbrev pub invariant-loop-left : goal.invariant-loop-left
+invariant-loop-left l = l.rows.items ++ rows_through l.maps l.left ≡ rows_through l.maps l.source
+
+abbrev pub decreases-loop-left : goal.decreases-loop-left
+decreases-loop-left l = length l.left

@@ -7,6 +7,6 @@ use Rattle.nemo_value.proofs.sorting.sort_records.Goals as goal
 
 pub returns : goal.returns
 returns c =
-    let all = c.sort.new.self.items in
-    let moved : IsPermutation c.args.rows all = subst (λ rows. IsPermutation rows all) c.into_vec-rows.ensures c.in_ok-sort.ensures.permutation in
-    c.from_vec.ensures ∙ sorted_only record_cmp record_strict c.args.rows all moved c.in_ok-sort.ensures.sorted
+    let all = c.sort_unstable.new.self.items in
+    let moved : IsPermutation c.args.rows all = subst (λ rows. IsPermutation rows all) c.into_vec-rows.ensures c.sort_unstable.ensures.permutation in
+    c.from_vec.ensures ∙ sorted_only record_cmp record_strict c.args.rows all moved c.sort_unstable.ensures.sorted

@@ -1,0 +1,70 @@
+ghost use Rattle.std.specs.Prelude.{◌≡◌, is_none};
+ghost use Rattle.std.specs.List.{list_all};
+ghost use Rattle.serde_json.specs.Find.{get};
+ghost use Rattle.serde_json.specs.View.{view};
+ghost use Rattle.nemo_bundle.specs.Answers.{Gives, Reads};
+ghost use Rattle.nemo_bundle.specs.Read.{bundle_of, job_of};
+ghost use Rattle.nemo_bundle.specs.Read as spec;
+
+use crate::end::{BundleEnd, UNSERVED};
+use crate::read::read_member;
+use nemo_job::{Job, JobVertex, is_chain};
+use nemo_value::List;
+use serde_json::Value;
+use std::alloc::Global;
+
+/// The one version of the form.
+const VERSION: i64 = 1;
+
+/// The members that a bundle may not have yet.
+const UNSERVED_MEMBERS: [&str; 7] = [
+    "cluster",
+    "parallelism",
+    "policy",
+    "settings",
+    "script",
+    "schedule",
+    "dag",
+];
+
+/// What a bundle asks for: a job.
+#[derive(Debug, Drop)]
+pub struct Bundle {
+    pub job: Job,
+}
+
+/// The bundle that a JSON value stands for. What has not the form that is served is refused with code 90 and place 0.
+pub fn read_bundle(alloc: Global, value: &Value) -> Result<Bundle, BundleEnd>
+    ensures { Gives result (bundle_of (view value.now)) }
+{
+    if !is_served(value) {
+        return Err(UNSERVED);
+    }
+    let job = read_job(alloc, value)?;
+    Ok(Bundle { job })
+}
+
+/// Whether `nemo` is the version, and no member is there that isn't served.
+fn is_served(value: &Value) -> bool
+    ensures { result ≡ spec.is_served (view value.now) }
+{
+    value.get("nemo").and_then(Value::as_i64) == Some(VERSION) && has_none(value, &UNSERVED_MEMBERS)
+}
+
+/// Whether no member has one of the names.
+fn has_none(value: &Value, names: &[&str]) -> bool
+    ensures { result ≡ list_all (λ name. is_none (get name.now (view value.now))) names.now }
+{
+    names.iter().all(|name| value.get(*name).is_none())
+}
+
+#[tactic(auto, using(crate::proofs::Filled::chain_built))]
+fn read_job(alloc: Global, value: &Value) -> Result<Job, BundleEnd>
+    ensures { Reads result (job_of (view value.now)) }
+{
+    let vertices: List<JobVertex> = read_member(alloc, value, "job")?;
+    if !is_chain(alloc, vertices.as_slice())? {
+        return Err(UNSERVED);
+    }
+    Ok(Job::new(vertices.into_vec())?)
+}

@@ -1,0 +1,11 @@
+//! Reading a bundle from its JSON value.
+#![tactic(auto)]
+
+mod bundle;
+mod end;
+mod parts;
+mod read;
+mod vertices;
+
+pub use bundle::{Bundle, read_bundle};
+pub use end::BundleEnd;

@@ -1,0 +1,30 @@
+//! Runs the rows of a table, which is read from standard input as JSON, through the top call and the library, and
+//! prints each row that differs, and how many did. What is expected comes from the rules, worked out by hand.
+#![tactic(auto)]
+
+mod calls;
+mod parts;
+mod report;
+mod values;
+
+use nemo_io::{StdSource, read_to_end};
+use report::Tally;
+use serde_json::Value;
+use std::io;
+use std::process::ExitCode;
+
+fn main(rt: HostRuntime) -> io::Result<ExitCode> {
+    let alloc = rt.alloc();
+    let mut source = StdSource::new(rt.reader());
+    let Ok(bytes) = read_to_end(alloc, &mut source) else {
+        return Ok(ExitCode::from(1));
+    };
+    let Ok(table) = Value::from_slice(alloc, bytes.as_slice()) else {
+        return Ok(ExitCode::from(1));
+    };
+    let mut tally = Tally::new();
+    calls::run(&rt, alloc, &table, &mut tally)?;
+    values::run(&rt, alloc, &table, &mut tally)?;
+    println!(rt; "{} rows, {} differ", tally.rows(), tally.different())?;
+    Ok(ExitCode::from(if tally.different() == 0 { 0 } else { 1 }))
+}

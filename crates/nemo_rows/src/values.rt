@@ -1,0 +1,219 @@
+ghost use Rattle.std.specs.Prelude.{IfOk, IsTrue};
+ghost use Rattle.nemo_transform.specs.Gives.{is_built};
+
+use crate::parts::{bytes_of, number, text};
+use crate::report::Tally;
+use nemo_transform::{Transform, apply, ports};
+use nemo_value::{
+    Boxed, EvalFault, Expr, Field, Kind, List, Name, NoMemory, Oper, Record, Same, Text, TryCopy,
+    bucket_of, eval,
+};
+use serde_json::Value;
+use std::alloc::Global;
+use std::io;
+use std::io::Print;
+
+/// Runs the rows of `library` through the library's calls. A row has the `call`, what it is given, and the `value`
+/// that is expected, as a text: a value, a fault's kind, or what a refusal names.
+pub(crate) fn run(
+    rt: &impl Print,
+    alloc: Global,
+    table: &Value,
+    tally: &mut Tally,
+) -> io::Result<()> {
+    let Some(rows) = table.get("library").and_then(Value::as_array) else {
+        return Ok(());
+    };
+    for row in rows {
+        let is_same = match value_of(alloc, row) {
+            Ok(value) => value.as_slice() == text(row, "value").as_bytes(),
+            Err(NoMemory) => false,
+        };
+        tally.count(rt, text(row, "value"), is_same)?;
+    }
+    Ok(())
+}
+
+fn value_of(alloc: Global, row: &Value) -> Result<Vec<u8>, NoMemory> {
+    match text(row, "call") {
+        "name" => name_of(alloc, row),
+        "text" => text_of(alloc, row),
+        "record" => record_of(alloc, row),
+        "bucket" => bucket(alloc, row),
+        "eval" => eval_of(alloc, row),
+        "copy" => copy_of(alloc),
+        "apply" => apply_of(alloc, row),
+        _ => Ok(Vec::new(alloc)),
+    }
+}
+
+/// The input of a row as a string; none where it is no UTF-8.
+fn string_of(alloc: Global, row: &Value) -> Result<String, NoMemory> {
+    let bytes = bytes_of(alloc, row.get("input"))?;
+    match String::from_utf8(bytes) {
+        Ok(s) => Ok(s),
+        Err(_) => Ok(String::new(alloc)),
+    }
+}
+
+fn numbered(alloc: Global, what: &str, n: u64) -> Result<Vec<u8>, NoMemory> {
+    let mut line = what.as_bytes().to_vec(alloc)?;
+    line.extend_from_slice(n.to_string(alloc)?.as_bytes())?;
+    Ok(line)
+}
+
+fn name_of(alloc: Global, row: &Value) -> Result<Vec<u8>, NoMemory> {
+    match Name::new(string_of(alloc, row)?) {
+        Ok(name) => Ok(name.as_str().as_bytes().to_vec(alloc)?),
+        Err(refused) => numbered(alloc, "place ", refused.place),
+    }
+}
+
+fn text_of(alloc: Global, row: &Value) -> Result<Vec<u8>, NoMemory> {
+    match Text::new(string_of(alloc, row)?) {
+        Ok(text) => numbered(alloc, "bytes ", text.as_str().len() as u64),
+        Err(refused) => numbered(alloc, "count ", refused.count),
+    }
+}
+
+fn record_of(alloc: Global, row: &Value) -> Result<Vec<u8>, NoMemory> {
+    let mut fields = Vec::new(alloc);
+    for _ in 0..number(row, "fields") {
+        fields.push(Field::Int(0))?;
+    }
+    match Record::new(List::from_vec(fields)) {
+        Ok(rec) => numbered(alloc, "fields ", rec.fields().len() as u64),
+        Err(refused) => numbered(alloc, "count ", refused.count),
+    }
+}
+
+/// A field: a number, or else a text.
+fn field_of(alloc: Global, value: Option<&Value>) -> Result<Field, NoMemory> {
+    if let Some(n) = value.and_then(Value::as_i64) {
+        return Ok(Field::Int(n));
+    }
+    let bytes = bytes_of(alloc, value)?;
+    let s = String::from_utf8(bytes).unwrap_or(String::new(alloc));
+    match Text::new(s) {
+        Ok(text) => Ok(Field::Text(text)),
+        Err(_) => Ok(Field::Int(0)),
+    }
+}
+
+fn bucket(alloc: Global, row: &Value) -> Result<Vec<u8>, NoMemory> {
+    let key = field_of(alloc, row.get("key"))?;
+    numbered(alloc, "", u64::from(bucket_of(&key)))
+}
+
+/// An operand: the place of a field, or a constant.
+fn operand(alloc: Global, row: &Value, name: &str) -> Result<Boxed<Expr>, NoMemory> {
+    let value = row.get(name);
+    let expr = match value.and_then(|v| v.get("field")).and_then(Value::as_u64) {
+        Some(place) => Expr::Get(u32::try_from(place).unwrap_or(u32::MAX)),
+        None => Expr::Const(field_of(alloc, value)?),
+    };
+    Ok(Boxed::new(alloc, expr)?)
+}
+
+fn oper_of(name: &str) -> Oper {
+    match name {
+        "+" => Oper::Add,
+        "-" => Oper::Sub,
+        "*" => Oper::Mul,
+        "/" => Oper::Div,
+        "%" => Oper::Rem,
+        "<" => Oper::Less,
+        "=" => Oper::Same,
+        _ => Oper::Cat,
+    }
+}
+
+fn expr_of(alloc: Global, row: &Value) -> Result<Expr, NoMemory> {
+    let a = operand(alloc, row, "a")?;
+    match text(row, "oper") {
+        "len" => Ok(Expr::Len(a)),
+        "if" => Ok(Expr::If(a, operand(alloc, row, "b")?, operand(alloc, row, "c")?)),
+        oper => Ok(Expr::Pair(oper_of(oper), a, operand(alloc, row, "b")?)),
+    }
+}
+
+/// The value of an expression on the record `[0]`.
+fn eval_of(alloc: Global, row: &Value) -> Result<Vec<u8>, NoMemory> {
+    let expr = expr_of(alloc, row)?;
+    let mut fields = Vec::new(alloc);
+    fields.push(Field::Int(0))?;
+    match Record::new(List::from_vec(fields)) {
+        Ok(rec) => answer(alloc, eval(alloc, &expr, &rec)),
+        Err(_) => Ok(Vec::new(alloc)),
+    }
+}
+
+fn answer(alloc: Global, value: Result<Field, EvalFault>) -> Result<Vec<u8>, NoMemory> {
+    let kind = match value {
+        Ok(Field::Int(n)) => return Ok(n.to_string(alloc)?.as_bytes().to_vec(alloc)?),
+        Ok(Field::Text(text)) => return numbered(alloc, "bytes ", text.as_str().len() as u64),
+        Err(EvalFault::Fault(kind)) => kind_name(kind),
+        Err(EvalFault::NoMemory) => "no memory",
+    };
+    Ok(kind.as_bytes().to_vec(alloc)?)
+}
+
+fn kind_name(kind: Kind) -> &'static str {
+    match kind {
+        Kind::DivZero => "DivZero",
+        Kind::Overflow => "Overflow",
+        Kind::Typed => "Type",
+        Kind::NoField => "NoField",
+        Kind::Wide => "Wide",
+        Kind::Long => "Long",
+    }
+}
+
+/// A map that divides 6 by the first field.
+fn six_over_first(alloc: Global) -> Result<Transform, NoMemory>
+    ensures { IfOk result (λ map. IsTrue (is_built map)) }
+{
+    let six = Boxed::new(alloc, Expr::Const(Field::Int(6)))?;
+    let first = Boxed::new(alloc, Expr::Get(0))?;
+    let mut out = List::new(alloc);
+    out.push(Expr::Pair(Oper::Div, six, first))?;
+    Ok(Transform::Map { out })
+}
+
+fn copy_of(alloc: Global) -> Result<Vec<u8>, NoMemory> {
+    let map = six_over_first(alloc)?;
+    let copy = map.copy(alloc)?;
+    let same = map.same(&copy) && !map.same(&Transform::Distinct);
+    let line: &[u8] = if same { b"the same" } else { b"different" };
+    Ok(line.to_vec(alloc)?)
+}
+
+fn record_with(alloc: Global, n: i64) -> Result<Record, NoMemory> {
+    let mut fields = List::new(alloc);
+    fields.push(Field::Int(n))?;
+    match Record::new(fields) {
+        Ok(rec) => Ok(rec),
+        Err(_) => Err(NoMemory),
+    }
+}
+
+fn records_of(alloc: Global, row: &Value) -> Result<List<Record>, NoMemory> {
+    let mut rows = List::new(alloc);
+    if let Some(numbers) = row.get("rows").and_then(Value::as_array) {
+        for n in numbers {
+            rows.push(record_with(alloc, n.as_i64().unwrap_or(0))?)?;
+        }
+    }
+    Ok(rows)
+}
+
+/// How many rows and faults the map gives on the row's numbers, as records of one field, and how many ports it has.
+fn apply_of(alloc: Global, row: &Value) -> Result<Vec<u8>, NoMemory> {
+    let rows = records_of(alloc, row)?;
+    let map = six_over_first(alloc)?;
+    let applied = apply(alloc, &map, rows.as_slice(), &[])?;
+    let mut line = numbered(alloc, "rows ", applied.rows.len() as u64)?;
+    line.extend_from_slice(numbered(alloc, " faults ", applied.faults.len() as u64)?.as_slice())?;
+    line.extend_from_slice(numbered(alloc, " ports ", u64::from(ports(&map).main))?.as_slice())?;
+    Ok(line)
+}

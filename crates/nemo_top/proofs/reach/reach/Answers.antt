@@ -1,0 +1,12 @@
+use Rattle.std.proofs.Common.{rules}
+use Rattle.nemo_top.specs.Texts.{text_of}
+use Rattle.nemo_top.proofs.Reading.{answers_read}
+use Rattle.nemo_top.proofs.reach.reach.Goals as goal
+
+pub returns-in-Ok : goal.returns-in-Ok
+returns-in-Ok g c =
+    let left = g.S.Source.left in
+    let faults = g.S.Source.faults in
+    let read = c.in-Ok.ensures in
+    answers_read c.args.words.now (left c.args.source.now) (left c.read_to_end.new.source) (faults c.args.source.now) (faults c.read_to_end.new.source) c.in-Ok.bytes.items
+    c.evaluate.result.status (text_of c.evaluate.result.output) (search rules) (search rules) read.content read.end read.short c.evaluate.ensures

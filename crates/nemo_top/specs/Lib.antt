@@ -1,0 +1,4 @@
+pub mod Outcome
+pub mod Statuses
+pub mod Texts
+pub mod Words

@@ -1,0 +1,12 @@
+//! The top call: a command from its words and its source to its sink.
+#![tactic(auto)]
+
+mod output;
+mod plain;
+mod reach;
+mod status;
+mod word;
+
+pub use plain::nemo_plain;
+pub use status::{Ended, Status};
+pub use word::Word;

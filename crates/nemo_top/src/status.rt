@@ -1,0 +1,47 @@
+ghost use Rattle.std.specs.Prelude.{◌≡◌};
+ghost use Rattle.nemo_top.specs.Statuses.{number_of};
+
+/// How a call ended.
+#[derive(Clone, Copy, Debug, PartialEq, Eq)]
+pub enum Status {
+    /// The command ended as asked.
+    Done,
+    /// The words are no command.
+    Usage,
+    /// A read failed.
+    ReadFault,
+    /// A write failed.
+    WriteFault,
+    /// The bytes are no JSON.
+    NotJson,
+    /// More than 33,554,432 bytes were read.
+    TooLong,
+    /// The JSON value is no bundle: the code of the first rule that it breaks, with the least place.
+    BundleRefused { code: u32, place: u64 },
+    /// No memory was left.
+    NoMemory,
+}
+
+/// What a call answers.
+#[derive(Clone, Copy, Debug, PartialEq, Eq)]
+pub struct Ended {
+    pub status: Status,
+}
+
+impl Status {
+    /// The exit status of the program.
+    pub fn number(&self) -> u8
+        ensures { result ≡ number_of self.now }
+    {
+        match self {
+            Status::Done => 0,
+            Status::Usage => 2,
+            Status::ReadFault => 3,
+            Status::WriteFault => 4,
+            Status::NotJson => 5,
+            Status::TooLong => 6,
+            Status::BundleRefused { .. } => 7,
+            Status::NoMemory => 13,
+        }
+    }
+}
