@@ -3,7 +3,5 @@
 
 mod lines;
 mod sinks;
-#[cfg(test)]
-mod tests;
 
 pub use sinks::sink_text;

@@ -21,6 +21,9 @@ pub record Call : Type 0 where
   pub faults_before : ℕ
   pub faults_after : ℕ
 
+abbrev pub call_of : List (List ℕ) → Option (List ℕ) → Option (List ℕ) → ℕ → ℕ → Call
+call_of words before after faults now = record { words = words; before = before; after = after; faults_before = faults; faults_after = now }
+
 -- the bytes are this JSON value
 abbrev pub IsJson : List ℕ → Data → Type 0
 IsJson bytes d = IsUtf8 bytes × (read bytes ≡ Some d)

@@ -2,7 +2,7 @@ ghost use Rattle.std.specs.Prelude.{◌≡◌, ◌≢◌, ℕ, List};
 ghost use Rattle.std.specs.Io.KnownBytes.{Appends};
 ghost use Rattle.nemo_io.specs.Faults.{Rose};
 ghost use Rattle.nemo_io.specs.Told.{AppendsPart};
-ghost use Rattle.nemo_top.specs.Outcome.{Answers, Call};
+ghost use Rattle.nemo_top.specs.Outcome.{Answers, call_of};
 ghost use Rattle.nemo_top.specs.declared.status.Status.{Status};
 
 use crate::reach::{Reached, reach};
@@ -21,24 +21,12 @@ pub fn nemo_plain<S: Source, K: Sink>(
     sink: &mut K,
 ) -> Ended
     // Each status but WriteFault has its cause, and its text was given.
-    ensures wrote { let call : Call = record {
-      words = words.now;
-      before = S.left source.old;
-      after = S.left source.new;
-      faults_before = S.faults source.old;
-      faults_after = S.faults source.new;
-    } in
+    ensures wrote { let call = call_of words.now (S.left source.old) (S.left source.new) (S.faults source.old) (S.faults source.new) in
         result.status ≢ Status.WriteFault → (text : List ℕ) × Answers call result.status text × Appends (K.given sink.old) (K.given sink.new) text }
     ensures sink_kept { result.status ≢ Status.WriteFault → K.faults sink.new ≡ K.faults sink.old }
 
     // A WriteFault comes in the place of a status that has its cause, and a part of that one's text was given.
-    ensures part { let call : Call = record {
-      words = words.now;
-      before = S.left source.old;
-      after = S.left source.new;
-      faults_before = S.faults source.old;
-      faults_after = S.faults source.new;
-    } in
+    ensures part { let call = call_of words.now (S.left source.old) (S.left source.new) (S.faults source.old) (S.faults source.new) in
         result.status ≡ Status.WriteFault → (reached : Status) × (text : List ℕ) × Answers call reached text × AppendsPart (K.given sink.old) (K.given sink.new) text }
     ensures write_fault { result.status ≡ Status.WriteFault → Rose (K.faults sink.old) (K.faults sink.new) }
 {

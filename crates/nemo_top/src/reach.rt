@@ -6,7 +6,7 @@ ghost use Rattle.nemo_bundle.specs.Read.{bundle_of};
 ghost use Rattle.nemo_job.specs.Chain.{is_built};
 ghost use Rattle.nemo_job.specs.Sinks.{job_faults, job_rows};
 ghost use Rattle.nemo_report.specs.Texts.{sinks_text};
-ghost use Rattle.nemo_top.specs.Outcome.{Answers, Call, IsJson, LeadsTo, Refuses, Runs};
+ghost use Rattle.nemo_top.specs.Outcome.{Answers, call_of, IsJson, LeadsTo, Refuses, Runs};
 ghost use Rattle.nemo_top.specs.Statuses.{last_line, is_known};
 ghost use Rattle.nemo_top.specs.Texts.{text_of};
 
@@ -30,13 +30,7 @@ pub struct Reached {
 
 /// What the words and the source's content lead to.
 pub fn reach<S: Source>(alloc: Global, words: &[Word], source: &mut S) -> Reached
-    ensures { let call : Call = record {
-      words = words.now;
-      before = S.left source.old;
-      after = S.left source.new;
-      faults_before = S.faults source.old;
-      faults_after = S.faults source.new;
-    } in
+    ensures { let call = call_of words.now (S.left source.old) (S.left source.new) (S.faults source.old) (S.faults source.new) in
         Answers call result.status (text_of result.output) }
 {
     if !is_command(words) {
