@@ -17,7 +17,6 @@ pub fn bucket_of(key: &Field) -> u8
 
 /// The low byte of the hash. The low byte of a product or of an exclusive or depends on the low bytes alone, so the
 /// hash can be computed in single bytes, from the low bytes of its start and its prime.
-
 fn low_hash(bytes: &[u8]) -> u8
     ensures { result ≡ spec.hash_of bytes.now % 256 }
 {
