@@ -1,4 +1,3 @@
 pub mod Outcome
 pub mod Statuses
-pub mod Texts
 pub mod Words

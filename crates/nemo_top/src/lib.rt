@@ -1,7 +1,6 @@
 //! The top call: a command from its words and its source to its sink.
 #![tactic(auto)]
 
-mod output;
 mod plain;
 mod reach;
 mod status;

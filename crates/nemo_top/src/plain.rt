@@ -5,7 +5,7 @@ ghost use Rattle.nemo_io.specs.Told.{AppendsPart};
 ghost use Rattle.nemo_top.specs.Outcome.{Answers, call_of};
 ghost use Rattle.nemo_top.specs.declared.status.Status.{Status};
 
-use crate::reach::{Reached, reach};
+use crate::reach::reach;
 use crate::status::{Ended, Status};
 use crate::word::Word;
 use nemo_io::{Failed, Sink, Source, write_all};
@@ -31,12 +31,9 @@ pub fn nemo_plain<S: Source, K: Sink>(
     ensures write_fault { result.status ≡ Status.WriteFault → Rose (K.faults sink.old) (K.faults sink.new) }
 {
     let reached = reach(alloc, words, source);
-    match write_all(sink, reached.output.as_slice()) {
-        Ok(()) => Ended {
-            status: reached.status,
-        },
-        Err(Failed) => Ended {
-            status: Status::WriteFault,
-        },
-    }
+    let status = match write_all(sink, reached.text.as_slice()) {
+        Ok(()) => reached.status,
+        Err(Failed) => Status::WriteFault,
+    };
+    Ended { status }
 }

@@ -1,16 +1,14 @@
 ghost use Rattle.std.specs.Prelude.{◌≡◌, ◌++◌, ◌∷◌, [], true, IfOk, IfErr, codes, decimal};
+ghost use Rattle.std.specs.Cow.{cow_slice_items};
 ghost use Rattle.serde_json.specs.View.{view};
 ghost use Rattle.serde_json.specs.Data.{Data};
 ghost use Rattle.nemo_bundle.specs.Answers.{Gives};
 ghost use Rattle.nemo_bundle.specs.Read.{bundle_of};
-ghost use Rattle.nemo_job.specs.Chain.{is_built};
 ghost use Rattle.nemo_job.specs.Sinks.{job_faults, job_rows};
 ghost use Rattle.nemo_report.specs.Texts.{sinks_text};
 ghost use Rattle.nemo_top.specs.Outcome.{Answers, call_of, IsJson, LeadsTo, Refuses, Runs};
 ghost use Rattle.nemo_top.specs.Statuses.{last_line, is_known};
-ghost use Rattle.nemo_top.specs.Texts.{text_of};
 
-use crate::output::Output;
 use crate::status::Status;
 use crate::word::{Word, is_command};
 use nemo_bundle::{Bundle, BundleEnd, read_bundle};
@@ -20,18 +18,19 @@ use nemo_report::sink_text;
 use nemo_value::{List, NoMemory};
 use serde_json::Value;
 use std::alloc::Global;
+use std::borrow::CowSlice;
 
 /// A status that was reached before anything is written, with its text.
 #[derive(Drop)]
 pub struct Reached {
     pub status: Status,
-    pub output: Output,
+    pub text: CowSlice<'static, u8>,
 }
 
 /// What the words and the source's content lead to.
 pub fn reach<S: Source>(alloc: Global, words: &[Word], source: &mut S) -> Reached
     ensures { let call = call_of words.now (S.left source.old) (S.left source.new) (S.faults source.old) (S.faults source.new) in
-        Answers call result.status (text_of result.output) }
+        Answers call result.status (cow_slice_items result.text) }
 {
     if !is_command(words) {
         return with_line(Status::Usage);
@@ -48,11 +47,11 @@ pub fn reach<S: Source>(alloc: Global, words: &[Word], source: &mut S) -> Reache
 fn with_line(status: Status) -> Reached
     requires { is_known status ≡ true }
     ensures status { result.status ≡ status }
-    ensures line { text_of result.output ≡ last_line status }
+    ensures line { cow_slice_items result.text ≡ last_line status }
 {
     Reached {
         status,
-        output: Output::Line(line_of(&status)),
+        text: CowSlice::Borrowed(line_of(&status)),
     }
 }
 
@@ -72,7 +71,7 @@ fn line_of(status: &Status) -> &'static [u8]
 
 /// What the bytes lead to. They are dropped once they are read, and so is the JSON value.
 fn evaluate(alloc: Global, bytes: Vec<u8>) -> Reached
-    ensures { LeadsTo bytes.items result.status (text_of result.output) }
+    ensures { LeadsTo bytes.items result.status (cow_slice_items result.text) }
 {
     match parse(alloc, bytes) {
         Ok(value) => match read(alloc, value) {
@@ -114,12 +113,12 @@ fn read(alloc: Global, value: Value) -> Result<Bundle, BundleEnd>
 
 /// What a bundle's job leads to.
 fn run(alloc: Global, bundle: &Bundle) -> Reached
-    ensures { Runs bundle.now result.status (text_of result.output) }
+    ensures { Runs bundle.now result.status (cow_slice_items result.text) }
 {
     match eval_text(alloc, &bundle.job) {
         Ok(text) => Reached {
             status: Status::Done,
-            output: Output::Made(text),
+            text: CowSlice::Owned(text),
         },
         Err(NoMemory) => with_line(Status::NoMemory),
     }
@@ -143,12 +142,12 @@ fn eval_text(alloc: Global, job: &Job) -> Result<Vec<u8>, NoMemory>
 
 /// The refusal of a bundle.
 fn refuse(alloc: Global, code: u32, place: u64) -> Reached
-    ensures { Refuses code place result.status (text_of result.output) }
+    ensures { Refuses code place result.status (cow_slice_items result.text) }
 {
     match refusal_line(alloc, code, place) {
         Ok(line) => Reached {
             status: Status::BundleRefused { code, place },
-            output: Output::Made(line),
+            text: CowSlice::Owned(line),
         },
         Err(NoMemory) => with_line(Status::NoMemory),
     }

@@ -1,5 +1,5 @@
 use Rattle.std.proofs.Common.{rules}
-use Rattle.nemo_top.specs.Texts.{text_of}
+use Rattle.std.specs.Cow.{cow_slice_items}
 use Rattle.nemo_top.proofs.Reading.{answers_read}
 use Rattle.nemo_top.proofs.reach.reach.Goals as goal
 
@@ -9,4 +9,4 @@ returns-in-Ok g c =
     let faults = g.S.Source.faults in
     let read = c.in-Ok.ensures in
     answers_read c.args.words.now (left c.args.source.now) (left c.read_to_end.new.source) (faults c.args.source.now) (faults c.read_to_end.new.source) c.in-Ok.bytes.items
-    c.evaluate.result.status (text_of c.evaluate.result.output) (search rules) (search rules) read.content read.end read.short c.evaluate.ensures
+    c.evaluate.result.status (cow_slice_items c.evaluate.result.text) (search rules) (search rules) read.content read.end read.short c.evaluate.ensures
