@@ -1,37 +1,22 @@
 ghost use Rattle.std.specs.Prelude.{◌<◌};
 
 use crate::parts::{bytes_of, number, text};
-use crate::report::Tally;
 use nemo_io::{MemorySink, MemorySource};
 use nemo_top::{Word, nemo_plain};
 use serde_json::Value;
 use std::alloc::{AllocError, Global};
-use std::io;
-use std::io::Print;
 
-/// Runs the rows of `calls` through the top call. A row has the `words`, one space between them, the `input`, the
-/// `output` and the `status`. It may have the most bytes of a read and of a write, `read` and `write`, and the number
-/// of the one read or write that fails, `failed_read` and `failed_write`. With `cut` it is run on each proper front of
-/// its input, and expects the same each time.
-pub(crate) fn run(
-    rt: &impl Print,
-    alloc: Global,
-    table: &Value,
-    tally: &mut Tally,
-) -> io::Result<()> {
-    let Some(rows) = table.get("calls").and_then(Value::as_array) else {
-        return Ok(());
-    };
-    for row in rows {
-        let input = bytes_of(alloc, row.get("input"))?;
-        let is_same = if row.get("cut").is_some() {
-            cuts_are_same(alloc, row, input.as_slice())?
-        } else {
-            is_same(alloc, row, input.as_slice())?
-        };
-        tally.count(rt, text(row, "name"), is_same)?;
+/// Whether the top call writes and answers what is expected. A row has the `words`, one space between them, the
+/// `input`, the `output` and the `status`. It may have the most bytes of a read and of a write, `read` and `write`,
+/// and the number of the one read or write that fails, `failed_read` and `failed_write`. With `cut` it is run on each
+/// proper front of its input, and expects the same each time.
+pub(crate) fn is_expected(alloc: Global, row: &Value) -> Result<bool, AllocError> {
+    let input = bytes_of(alloc, row.get("input"))?;
+    if row.get("cut").is_some() {
+        cuts_are_same(alloc, row, input.as_slice())
+    } else {
+        is_same(alloc, row, input.as_slice())
     }
-    Ok(())
 }
 
 fn cuts_are_same(alloc: Global, row: &Value, input: &[u8]) -> Result<bool, AllocError> {

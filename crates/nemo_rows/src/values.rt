@@ -2,7 +2,6 @@ ghost use Rattle.std.specs.Prelude.{IfOk, IsTrue};
 ghost use Rattle.nemo_transform.specs.Gives.{is_built};
 
 use crate::parts::{bytes_of, number, text};
-use crate::report::Tally;
 use nemo_transform::{Transform, apply, ports};
 use nemo_value::{
     Boxed, EvalFault, Expr, Field, Kind, List, Name, NoMemory, Oper, Record, Same, Text, TryCopy,
@@ -10,28 +9,14 @@ use nemo_value::{
 };
 use serde_json::Value;
 use std::alloc::Global;
-use std::io;
-use std::io::Print;
 
-/// Runs the rows of `library` through the library's calls. A row has the `call`, what it is given, and the `value`
-/// that is expected, as a text: a value, a fault's kind, or what a refusal names.
-pub(crate) fn run(
-    rt: &impl Print,
-    alloc: Global,
-    table: &Value,
-    tally: &mut Tally,
-) -> io::Result<()> {
-    let Some(rows) = table.get("library").and_then(Value::as_array) else {
-        return Ok(());
-    };
-    for row in rows {
-        let is_same = match value_of(alloc, row) {
-            Ok(value) => value.as_slice() == text(row, "value").as_bytes(),
-            Err(NoMemory) => false,
-        };
-        tally.count(rt, text(row, "value"), is_same)?;
+/// Whether a call of the library gives what is expected. A row has the `call`, what it is given, and the `value` that
+/// is expected, as a text: a value, a fault's kind, or what a refusal names.
+pub(crate) fn is_expected(alloc: Global, row: &Value) -> bool {
+    match value_of(alloc, row) {
+        Ok(value) => value.as_slice() == text(row, "value").as_bytes(),
+        Err(NoMemory) => false,
     }
-    Ok(())
 }
 
 fn value_of(alloc: Global, row: &Value) -> Result<Vec<u8>, NoMemory> {
@@ -47,13 +32,10 @@ fn value_of(alloc: Global, row: &Value) -> Result<Vec<u8>, NoMemory> {
     }
 }
 
-/// The input of a row as a string; none where it is no UTF-8.
-fn string_of(alloc: Global, row: &Value) -> Result<String, NoMemory> {
-    let bytes = bytes_of(alloc, row.get("input"))?;
-    match String::from_utf8(bytes) {
-        Ok(s) => Ok(s),
-        Err(_) => Ok(String::new(alloc)),
-    }
+/// The string that a value stands for; the empty one where its bytes are no UTF-8.
+fn string_of(alloc: Global, value: Option<&Value>) -> Result<String, NoMemory> {
+    let bytes = bytes_of(alloc, value)?;
+    Ok(String::from_utf8(bytes).unwrap_or(String::new(alloc)))
 }
 
 fn numbered(alloc: Global, what: &str, n: u64) -> Result<Vec<u8>, NoMemory> {
@@ -63,14 +45,14 @@ fn numbered(alloc: Global, what: &str, n: u64) -> Result<Vec<u8>, NoMemory> {
 }
 
 fn name_of(alloc: Global, row: &Value) -> Result<Vec<u8>, NoMemory> {
-    match Name::new(string_of(alloc, row)?) {
+    match Name::new(string_of(alloc, row.get("input"))?) {
         Ok(name) => Ok(name.as_str().as_bytes().to_vec(alloc)?),
         Err(refused) => numbered(alloc, "place ", refused.place),
     }
 }
 
 fn text_of(alloc: Global, row: &Value) -> Result<Vec<u8>, NoMemory> {
-    match Text::new(string_of(alloc, row)?) {
+    match Text::new(string_of(alloc, row.get("input"))?) {
         Ok(text) => numbered(alloc, "bytes ", text.as_str().len() as u64),
         Err(refused) => numbered(alloc, "count ", refused.count),
     }
@@ -92,9 +74,7 @@ fn field_of(alloc: Global, value: Option<&Value>) -> Result<Field, NoMemory> {
     if let Some(n) = value.and_then(Value::as_i64) {
         return Ok(Field::Int(n));
     }
-    let bytes = bytes_of(alloc, value)?;
-    let s = String::from_utf8(bytes).unwrap_or(String::new(alloc));
-    match Text::new(s) {
+    match Text::new(string_of(alloc, value)?) {
         Ok(text) => Ok(Field::Text(text)),
         Err(_) => Ok(Field::Int(0)),
     }
@@ -140,12 +120,8 @@ fn expr_of(alloc: Global, row: &Value) -> Result<Expr, NoMemory> {
 /// The value of an expression on the record `[0]`.
 fn eval_of(alloc: Global, row: &Value) -> Result<Vec<u8>, NoMemory> {
     let expr = expr_of(alloc, row)?;
-    let mut fields = Vec::new(alloc);
-    fields.push(Field::Int(0))?;
-    match Record::new(List::from_vec(fields)) {
-        Ok(rec) => answer(alloc, eval(alloc, &expr, &rec)),
-        Err(_) => Ok(Vec::new(alloc)),
-    }
+    let rec = record_with(alloc, 0)?;
+    answer(alloc, eval(alloc, &expr, &rec))
 }
 
 fn answer(alloc: Global, value: Result<Field, EvalFault>) -> Result<Vec<u8>, NoMemory> {
