@@ -18,13 +18,9 @@ impl FromJson for Field {
         if let Some(n) = value.as_i64() {
             return Ok(Field::Int(n));
         }
-        let Some(text) = value.as_str() else {
-            return Err(UNSERVED);
-        };
-        match Text::new(owned(alloc, text)?) {
-            Ok(text) => Ok(Field::Text(text)),
-            Err(_) => Err(UNSERVED),
-        }
+        let text = value.as_str().ok_or(UNSERVED)?;
+        let text = Text::new(owned(alloc, text)?).map_err(|_| UNSERVED)?;
+        Ok(Field::Text(text))
     }
 }
 
@@ -35,10 +31,7 @@ impl FromJson for Record {
     ghost reads = { record_of };
 
     fn from_json(alloc: Global, value: &Value) -> Result<Record, BundleEnd> {
-        match Record::new(List::from_json(alloc, value)?) {
-            Ok(record) => Ok(record),
-            Err(_) => Err(UNSERVED),
-        }
+        Record::new(List::from_json(alloc, value)?).map_err(|_| UNSERVED)
     }
 }
 
@@ -49,13 +42,8 @@ impl FromJson for Name {
     ghost reads = { name_of };
 
     fn from_json(alloc: Global, value: &Value) -> Result<Name, BundleEnd> {
-        let Some(text) = value.as_str() else {
-            return Err(UNSERVED);
-        };
-        match Name::new(owned(alloc, text)?) {
-            Ok(name) => Ok(name),
-            Err(_) => Err(UNSERVED),
-        }
+        let text = value.as_str().ok_or(UNSERVED)?;
+        Name::new(owned(alloc, text)?).map_err(|_| UNSERVED)
     }
 }
 
@@ -66,23 +54,16 @@ impl FromJson for Expr {
     ghost reads = { expr_of };
 
     fn from_json(alloc: Global, value: &Value) -> Result<Expr, BundleEnd> {
-        match value.as_array() {
-            Some(items) => read_expr(alloc, items.as_slice()),
-            None => Err(UNSERVED),
-        }
+        read_expr(alloc, value.as_array().ok_or(UNSERVED)?.as_slice())
     }
 }
 
-#[tactic(auto, using(crate::proofs::Pairs::expr_not_two, crate::proofs::Pairs::expr_two))]
 fn read_expr(alloc: Global, items: &[Value]) -> Result<Expr, BundleEnd>
     ensures { Reads result (expr_from (items_view items.now)) }
 {
-    if items.len() != 2 {
-        return Err(UNSERVED);
-    }
-    match items[0].as_str() {
-        Some(word) => read_expr_by(alloc, word, &items[1]),
-        None => Err(UNSERVED),
+    match items {
+        [word, value] => read_expr_by(alloc, word.as_str().ok_or(UNSERVED)?, value),
+        _ => Err(UNSERVED),
     }
 }
 
@@ -90,15 +71,9 @@ fn read_expr(alloc: Global, items: &[Value]) -> Result<Expr, BundleEnd>
 fn read_expr_by(alloc: Global, word: &str, value: &Value) -> Result<Expr, BundleEnd>
     ensures { Reads result (expr_by (view value.now) word.now) }
 {
-    if word == "f" {
-        if value.as_i64() == Some(0) {
-            Ok(Expr::Get(0))
-        } else {
-            Err(UNSERVED)
-        }
-    } else if word == "c" {
-        Ok(Expr::Const(Field::from_json(alloc, value)?))
-    } else {
-        Err(UNSERVED)
+    match word {
+        "f" if value.as_i64() == Some(0) => Ok(Expr::Get(0)),
+        "c" => Ok(Expr::Const(Field::from_json(alloc, value)?)),
+        _ => Err(UNSERVED),
     }
 }

@@ -24,10 +24,7 @@ impl<T: FromJson> FromJson for List<T> {
     ghost reads = { array_of T.reads };
 
     fn from_json(alloc: Global, value: &Value) -> Result<List<T>, BundleEnd> {
-        match value.as_array() {
-            Some(items) => read_items(alloc, items.as_slice()),
-            None => Err(UNSERVED),
-        }
+        read_items(alloc, value.as_array().ok_or(UNSERVED)?.as_slice())
     }
 }
 
@@ -50,10 +47,7 @@ pub(crate) fn read_member<T: FromJson>(
 ) -> Result<T, BundleEnd>
     ensures { Reads result (member_of name.now T.reads (view value.now)) }
 {
-    match value.get(name) {
-        Some(member) => T::from_json(alloc, member),
-        None => Err(UNSERVED),
-    }
+    T::from_json(alloc, value.get(name).ok_or(UNSERVED)?)
 }
 
 /// The text as a string of its own.

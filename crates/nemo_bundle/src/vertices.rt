@@ -57,10 +57,8 @@ fn read_inputs(alloc: Global, value: &Value) -> Result<List<Ref>, BundleEnd>
 fn read_transform(alloc: Global, name: &Name, value: &Value) -> Result<Transform, BundleEnd>
     ensures { Reads result (transform_of name.now (view value.now)) }
 {
-    match value.get("op").and_then(Value::as_str) {
-        Some(op) => read_transform_by(alloc, op, name, value),
-        None => Err(UNSERVED),
-    }
+    let op = value.get("op").and_then(Value::as_str).ok_or(UNSERVED)?;
+    read_transform_by(alloc, op, name, value)
 }
 
 fn read_transform_by(
@@ -71,16 +69,15 @@ fn read_transform_by(
 ) -> Result<Transform, BundleEnd>
     ensures { Reads result (transform_by name.now (view value.now) op.now) }
 {
-    if op == "source" {
-        let rows = read_member(alloc, value, "rows")?;
-        Ok(Transform::Source { rows })
-    } else if op == "map" {
-        read_map(alloc, value)
-    } else if op == "sink" {
-        let name = name.copy(alloc)?;
-        Ok(Transform::Sink { name })
-    } else {
-        Err(UNSERVED)
+    match op {
+        "source" => Ok(Transform::Source {
+            rows: read_member(alloc, value, "rows")?,
+        }),
+        "map" => read_map(alloc, value),
+        "sink" => Ok(Transform::Sink {
+            name: name.copy(alloc)?,
+        }),
+        _ => Err(UNSERVED),
     }
 }
 
