@@ -1,4 +1,4 @@
-ghost use Rattle.std.specs.Prelude.{◌≡◌, ◌≤◌, ◌<◌, ◌-◌, ℕ, List, Option, length, take, IfOk, OnOk, OnErr};
+ghost use Rattle.std.specs.Prelude.{◌<◌, ◌-◌, ℕ, List, Option, length, IfOk, OnOk, OnErr};
 ghost use Rattle.std.specs.Io.{WritesAtMost};
 ghost use Rattle.std.specs.Io.KnownBytes.{WriteAppends, Appends};
 ghost use Rattle.nemo_io.specs.Faults.{HasCause};

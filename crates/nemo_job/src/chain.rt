@@ -4,7 +4,7 @@ ghost use Rattle.nemo_job.specs.Chain as spec;
 
 use crate::vertex::{JobVertex, Ref, Work};
 use nemo_transform::Transform;
-use nemo_value::{Expr, Name, NoMemory, Same};
+use nemo_value::{Expr, Name, NoMemory};
 use std::alloc::Global;
 use std::collections::BTreeSet;
 

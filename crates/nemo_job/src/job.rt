@@ -1,4 +1,4 @@
-ghost use Rattle.std.specs.Prelude.{◌≡◌, ◌&&◌, true, IfOk, IfErr};
+ghost use Rattle.std.specs.Prelude.{◌≡◌, true, IfOk, IfErr};
 ghost use Rattle.nemo_job.specs.Chain.{is_built};
 ghost use Rattle.nemo_job.specs.declared.job.JobRefused.{JobRefused};
 

@@ -1,8 +1,5 @@
-ghost use Rattle.std.specs.Prelude.{◌≡◌, ◌↔◌, IsTrue, IfOk};
-
 use nemo_transform::Transform;
-use nemo_value::{Items, List, Name, NoMemory, Same, TryCopy};
-use std::alloc::Global;
+use nemo_value::{Items, List, Name};
 
 /// A port of a vertex, named by the vertex: port 0 of all but a loop.
 #[derive(Debug, Drop)]

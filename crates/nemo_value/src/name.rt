@@ -1,4 +1,4 @@
-ghost use Rattle.std.specs.Prelude.{◌≡◌, ◌↔◌, string_bytes, length, take_while, min, IsTrue, IsOk, IfOk, IfErr, true};
+ghost use Rattle.std.specs.Prelude.{◌≡◌, ◌↔◌, string_bytes, length, take_while, min, IsOk, IfOk, IfErr, true};
 ghost use Rattle.nemo_value.specs.Names.{is_name, name_place};
 ghost use Rattle.nemo_value.specs.Names as spec;
 

@@ -1,4 +1,4 @@
-ghost use Rattle.std.specs.Prelude.{◌≡◌, ◌≤◌, ◌↔◌, ◌++◌, length, string_bytes, IsOk, IfOk, IfErr, IsUtf8};
+ghost use Rattle.std.specs.Prelude.{◌≡◌, ◌≤◌, ◌↔◌, length, string_bytes, IsOk, IfOk, IfErr, IsUtf8};
 ghost use Rattle.nemo_value.specs.Texts.{joined};
 
 use crate::memory::NoMemory;
