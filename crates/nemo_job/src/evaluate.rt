@@ -73,12 +73,10 @@ fn eval_sink(
     ensures rows { IfOk result (λ sink. job_rows (source.now ∷ (maps.now ++ last.now ∷ [])) ≡ sink ∷ []) }
     ensures sound { IfOk result (λ sink. job_faults (source.now ∷ (maps.now ++ last.now ∷ [])) ≡ []) }
 {
+    let given = chain_rows(alloc, source_rows(&source.work), maps)?;
+    let rows = sort_records(alloc, given)?;
     let name = last.name.copy(alloc)?;
-    let rows = chain_rows(alloc, source_rows(&source.work), maps)?;
-    Ok(SinkRows {
-        name,
-        rows: sort_records(rows),
-    })
+    Ok(SinkRows { name, rows })
 }
 
 /// The rows of a source.
@@ -104,7 +102,7 @@ fn own_rows(transform: &Transform) -> &[Record]
 }
 
 /// How many rows go through the maps at a time, so that what stands between two maps stays small.
-const BATCH: usize = 256;
+const BATCH: usize = 32;
 
 /// The source's rows after all maps.
 fn chain_rows(

@@ -1,5 +1,5 @@
 -- The order of texts, fields and records.
-use Rattle.std.specs.Prelude.{ℕ, List}
+use Rattle.std.specs.Prelude.{ℕ, ℤ, List, [], ◌∷◌, Option, Some, None}
 use Rattle.std.specs.Ordering.{nat_cmp, int_cmp}
 use Rattle.std.specs.Cmp.Lexicographic.{slice_cmp}
 use Rattle.std.specs.declared.cmp.Ordering.{Ordering}
@@ -21,3 +21,9 @@ field_cmp (Text s) (Text t) = text_cmp s t
 -- by the fields from the first, a proper prefix first
 abbrev pub record_cmp : List Field → List Field → Ordering
 record_cmp = slice_cmp field_cmp
+
+-- the number that the first field is, if it is one
+abbrev pub number_of : List Field → Option ℤ
+number_of (Int z ∷ fs) = Some z
+number_of (Text s ∷ fs) = None
+number_of [] = None

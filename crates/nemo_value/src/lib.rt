@@ -5,6 +5,7 @@ mod bucket;
 mod evaluate;
 mod expr;
 mod field;
+mod keyed;
 mod list;
 mod memory;
 mod name;

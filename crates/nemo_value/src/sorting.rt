@@ -1,20 +1,43 @@
-ghost use Rattle.std.specs.Prelude.{◌≡◌, List as Sequence};
+ghost use Rattle.std.specs.Prelude.{◌≡◌, IfOk, List as Sequence};
 ghost use Rattle.std.specs.List.Sorted.{IsSorted, IsPermutation};
 ghost use Rattle.nemo_value.specs.Order.{record_cmp};
 ghost use Rattle.nemo_value.specs.Sorting.{sorted};
 ghost use Rattle.nemo_value.specs.declared.field.Field.{Field};
 
+use crate::keyed::Keyed;
 use crate::list::List;
+use crate::memory::NoMemory;
 use crate::record::Record;
+use std::alloc::Global;
 
 /// The records in ascending order, each as often as it comes. Records that tie are equal, so the sort need not be
-/// stable, and it takes no memory.
-pub fn sort_records(rows: List<Record>) -> List<Record>
-    ensures { result ≡ sorted record_cmp rows }
+/// stable.
+pub fn sort_records(alloc: Global, rows: List<Record>) -> Result<List<Record>, NoMemory>
+    ensures { IfOk result (λ all. all ≡ sorted record_cmp rows) }
 {
-    let mut rows = rows.into_vec();
-    rows.sort_unstable();
-    List::from_vec(rows)
+    let mut keyed = with_numbers(alloc, rows)?;
+    keyed.sort_unstable();
+    records_of(alloc, keyed)
+}
+
+fn with_numbers(alloc: Global, rows: List<Record>) -> Result<Vec<Keyed>, NoMemory>
+    ensures { IfOk result (λ keyed. keyed.items ≡ rows) }
+{
+    let mut keyed = Vec::with_capacity(alloc, rows.len())?;
+    for row in rows.into_vec() {
+        keyed.push(Keyed::new(row))?;
+    }
+    Ok(keyed)
+}
+
+fn records_of(alloc: Global, keyed: Vec<Keyed>) -> Result<List<Record>, NoMemory>
+    ensures { IfOk result (λ rows. rows ≡ keyed.items) }
+{
+    let mut rows = List::with_capacity(alloc, keyed.len())?;
+    for row in keyed {
+        rows.push(row.into_record())?;
+    }
+    Ok(rows)
 }
 
 /// What `sorted` means for records: it has the same records, in order, and no other list has.

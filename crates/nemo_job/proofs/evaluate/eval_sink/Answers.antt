@@ -15,10 +15,10 @@ chain_rows-requires c = AllPass-from_list_all does_map c.args.maps.now (middle c
 
 pub returns-clause-rows : goal.returns-clause-rows
 returns-clause-rows c =
-    let rows = c.in_ok-rows.ensures ∙ ap (rows_through c.args.maps.now) c.source_rows.ensures in
+    let given = c.in_ok-given.ensures ∙ ap (rows_through c.args.maps.now) c.source_rows.ensures in
+    let rows = c.in_ok-rows.ensures ∙ ap (sorted record_cmp) given in
     let name = c.in_ok-name.ensures in
-    let given = c.sort_records.ensures ∙ ap (sorted record_cmp) rows in
-    chain_rows c.args.source.now c.args.maps.now c.args.last.now c.requires ∙ sym (λ i. record { name = name i; rows = given i } ∷ [])
+    chain_rows c.args.source.now c.args.maps.now c.args.last.now c.requires ∙ sym (λ i. record { name = name i; rows = rows i } ∷ [])
 
 pub returns-clause-sound : goal.returns-clause-sound
 returns-clause-sound c = chain_sound c.args.source.now c.args.maps.now c.args.last.now c.requires

@@ -1,4 +1,4 @@
-use Rattle.std.proofs.Common.{◌∙◌, subst}
+use Rattle.std.proofs.Common.{◌≡◌, IfOk, subst}
 use Rattle.std.specs.List.Sorted.{IsPermutation}
 use Rattle.nemo_value.specs.Order.{record_cmp}
 use Rattle.nemo_value.proofs.RecordOrder.{record_strict}
@@ -8,5 +8,5 @@ use Rattle.nemo_value.proofs.sorting.sort_records.Goals as goal
 pub returns : goal.returns
 returns c =
     let all = c.sort_unstable.new.self.items in
-    let moved : IsPermutation c.args.rows all = subst (λ rows. IsPermutation rows all) c.into_vec-rows.ensures c.sort_unstable.ensures.permutation in
-    c.from_vec.ensures ∙ sorted_only record_cmp record_strict c.args.rows all moved c.sort_unstable.ensures.sorted
+    let moved : IsPermutation c.args.rows all = subst (λ rows. IsPermutation rows all) c.in_ok-keyed.ensures c.sort_unstable.ensures.permutation in
+    subst (λ rows. IfOk c.records_of.result (λ given. given ≡ rows)) (sorted_only record_cmp record_strict c.args.rows all moved c.sort_unstable.ensures.sorted) c.records_of.ensures
