@@ -4,7 +4,7 @@ ghost use Rattle.nemo_transform.specs.Gives.{is_built};
 use crate::parts::{bytes_of, number, text};
 use nemo_transform::{Transform, apply, ports};
 use nemo_value::{
-    Boxed, EvalFault, Expr, Field, Kind, List, Name, NoMemory, Oper, Record, Same, Text, TryCopy,
+    Boxed, EvalFault, Expr, Field, List, Name, NoMemory, Oper, Record, Same, Text, TryCopy,
     bucket_of, eval,
 };
 use serde_json::Value;
@@ -39,9 +39,7 @@ fn string_of(alloc: Global, value: Option<&Value>) -> Result<String, NoMemory> {
 }
 
 fn numbered(alloc: Global, what: &str, n: u64) -> Result<Vec<u8>, NoMemory> {
-    let mut line = what.as_bytes().to_vec(alloc)?;
-    line.extend_from_slice(n.to_string(alloc)?.as_bytes())?;
-    Ok(line)
+    Ok(format!(in alloc; "{what}{n}")?.into_bytes())
 }
 
 fn name_of(alloc: Global, row: &Value) -> Result<Vec<u8>, NoMemory> {
@@ -95,15 +93,16 @@ fn operand(alloc: Global, row: &Value, name: &str) -> Result<Boxed<Expr>, NoMemo
     Ok(Boxed::new(alloc, expr)?)
 }
 
-fn oper_of(name: &str) -> Oper {
-    match name {
-        "+" => Oper::Add,
-        "-" => Oper::Sub,
-        "*" => Oper::Mul,
-        "/" => Oper::Div,
-        "%" => Oper::Rem,
-        "<" => Oper::Less,
-        "=" => Oper::Same,
+/// The operator of a sign; any other word joins.
+fn oper_of(sign: &str) -> Oper {
+    match sign.as_bytes() {
+        [b'+'] => Oper::Add,
+        [b'-'] => Oper::Sub,
+        [b'*'] => Oper::Mul,
+        [b'/'] => Oper::Div,
+        [b'%'] => Oper::Rem,
+        [b'<'] => Oper::Less,
+        [b'='] => Oper::Same,
         _ => Oper::Cat,
     }
 }
@@ -124,25 +123,15 @@ fn eval_of(alloc: Global, row: &Value) -> Result<Vec<u8>, NoMemory> {
     answer(alloc, eval(alloc, &expr, &rec))
 }
 
+/// An answer: a number, how many bytes a text has, or the kind of a fault.
 fn answer(alloc: Global, value: Result<Field, EvalFault>) -> Result<Vec<u8>, NoMemory> {
-    let kind = match value {
-        Ok(Field::Int(n)) => return Ok(n.to_string(alloc)?.as_bytes().to_vec(alloc)?),
+    let text = match value {
+        Ok(Field::Int(n)) => n.to_string(alloc)?,
         Ok(Field::Text(text)) => return numbered(alloc, "bytes ", text.as_str().len() as u64),
-        Err(EvalFault::Fault(kind)) => kind_name(kind),
-        Err(EvalFault::NoMemory) => "no memory",
+        Err(EvalFault::Fault(kind)) => format!(in alloc; "{kind:?}")?,
+        Err(EvalFault::NoMemory) => return Err(NoMemory),
     };
-    Ok(kind.as_bytes().to_vec(alloc)?)
-}
-
-fn kind_name(kind: Kind) -> &'static str {
-    match kind {
-        Kind::DivZero => "DivZero",
-        Kind::Overflow => "Overflow",
-        Kind::Typed => "Type",
-        Kind::NoField => "NoField",
-        Kind::Wide => "Wide",
-        Kind::Long => "Long",
-    }
+    Ok(text.into_bytes())
 }
 
 /// A map that divides 6 by the first field.
@@ -159,9 +148,12 @@ fn six_over_first(alloc: Global) -> Result<Transform, NoMemory>
 fn copy_of(alloc: Global) -> Result<Vec<u8>, NoMemory> {
     let map = six_over_first(alloc)?;
     let copy = map.copy(alloc)?;
-    let same = map.same(&copy) && !map.same(&Transform::Distinct);
-    let line: &[u8] = if same { b"the same" } else { b"different" };
-    Ok(line.to_vec(alloc)?)
+    let line = if map.same(&copy) {
+        "the same"
+    } else {
+        "different"
+    };
+    Ok(line.as_bytes().to_vec(alloc)?)
 }
 
 fn record_with(alloc: Global, n: i64) -> Result<Record, NoMemory> {
@@ -188,8 +180,7 @@ fn apply_of(alloc: Global, row: &Value) -> Result<Vec<u8>, NoMemory> {
     let rows = records_of(alloc, row)?;
     let map = six_over_first(alloc)?;
     let applied = apply(alloc, &map, rows.as_slice(), &[])?;
-    let mut line = numbered(alloc, "rows ", applied.rows.len() as u64)?;
-    line.extend_from_slice(numbered(alloc, " faults ", applied.faults.len() as u64)?.as_slice())?;
-    line.extend_from_slice(numbered(alloc, " ports ", u64::from(ports(&map).main))?.as_slice())?;
-    Ok(line)
+    let (rows, faults) = (applied.rows.len(), applied.faults.len());
+    let line = format!(in alloc; "rows {rows} faults {faults} ports {}", ports(&map).main)?;
+    Ok(line.into_bytes())
 }

@@ -1,5 +1,5 @@
 -- Records whose first fields are different numbers.
-use Rattle.std.proofs.Common.{◌≡◌, ◌≢◌, refl, sym, ap, ◌∙◌, ℤ, [], ◌∷◌, List, Some, None}
+use Rattle.std.proofs.Common.{◌≡◌, ◌≢◌, refl, ℤ, [], ◌∷◌, List, Some}
 use Rattle.std.specs.FinMap.{int_cmp-IsAntisymmetric}
 use Rattle.std.specs.Ordering.{int_cmp, ordering_then}
 use Rattle.std.specs.declared.cmp.Ordering.{Ordering}
