@@ -6,8 +6,8 @@ use Rattle.serde_json.specs.Find.{as_str}
 use Rattle.nemo_transform.specs.Gives.{is_filled}
 use Rattle.nemo_transform.specs.declared.transform.Transform.{Transform}
 use Rattle.nemo_transform.specs.declared.transform.Transform.TheVariants.{Source, Map, Sink}
+use Rattle.nemo_value.specs.Texts.{same_text}
 use Rattle.nemo_job.specs.Chain.{is_chain, is_built, has_fields, rows_filled}
-use Rattle.nemo_job.specs.Mean.{same_text}
 use Rattle.nemo_job.specs.declared.vertex.JobVertex.{JobVertex}
 use Rattle.nemo_job.specs.declared.vertex.Ref.{Ref}
 use Rattle.nemo_job.specs.declared.vertex.Work.TheVariants.{Op}

@@ -12,10 +12,11 @@ use Rattle.nemo_transform.specs.FaultOrder.{fault_cmp}
 use Rattle.nemo_transform.specs.Gives.{Row, is_filled, map_answers, rows_in}
 use Rattle.nemo_transform.specs.declared.transform.Transform.TheVariants.{Source, Map, Sink}
 use Rattle.nemo_transform.proofs.MapSteps.{rows_in-rows, no_fault-rows}
-use Rattle.nemo_job.specs.Chain.{all_new, does_map, follows, has_fields, has_none, is_built, is_chain, is_end, is_map, is_plain, is_source, links, names_of, rows_filled as source_filled}
+use Rattle.nemo_value.specs.Texts.{same_text, all_new}
+use Rattle.nemo_job.specs.Chain.{does_map, follows, has_fields, has_none, is_built, is_chain, is_end, is_map, is_plain, is_source, links, names_of, rows_filled as source_filled}
 use Rattle.nemo_job.specs.ChainRows.{rows_after, rows_through}
-use Rattle.nemo_job.specs.Flow.{Flow, arisen, port}
-use Rattle.nemo_job.specs.Mean.{Entry, look, ports_at, run, same_text, vertex_mean, work_mean}
+use Rattle.nemo_transform.specs.Brought.{arisen, port}
+use Rattle.nemo_job.specs.Mean.{ByPath, Entry, look, ports_at, run, vertex_mean, work_mean}
 use Rattle.nemo_job.specs.Paths.{paths}
 use Rattle.nemo_job.specs.Sinks.{arisen_cmp, by_name, is_sink, job_faults, job_rows, reaching, sink_rows, sinks_of}
 use Rattle.nemo_job.specs.declared.vertex.JobVertex.{JobVertex}
@@ -26,7 +27,7 @@ use Rattle.nemo_job.proofs.Lookups.{entry_of, op_mean, ports_at-new}
 use Rattle.nemo_job.proofs.Plain.{no_faults, rows_filled}
 
 -- rows without faults
-abbrev pub clean : List Row → Flow
+abbrev pub clean : List Row → ByPath
 clean rows = record { rows = rows; faults = [] }
 
 ---- what each kind of vertex gives

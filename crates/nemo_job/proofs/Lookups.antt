@@ -1,9 +1,9 @@
 -- What a name finds among entries.
 use Rattle.std.proofs.Common.{rules, ◌≡◌, ap, ℕ, List, [], ◌∷◌, ◌++◌, Bool, true, false, ◌||◌, cond, map}
 use Rattle.std.specs.List.{list_any}
-use Rattle.nemo_job.specs.Flow.{Flow}
-use Rattle.nemo_job.specs.Mean.{Entry, ports_at, same_text, work_mean, vertex_mean, look}
-use Rattle.nemo_job.specs.Flow.{at}
+use Rattle.nemo_value.specs.Texts.{same_text}
+use Rattle.nemo_job.specs.Mean.{ByPath, Entry, ports_at, work_mean, vertex_mean, look}
+use Rattle.nemo_transform.specs.Brought.{at}
 use Rattle.nemo_transform.specs.declared.transform.Transform.{Transform}
 use Rattle.nemo_job.specs.declared.vertex.JobVertex.{JobVertex}
 use Rattle.nemo_job.specs.declared.vertex.Work.{the_lemmas}
@@ -14,7 +14,7 @@ pub entry_of : (v : JobVertex) (path : List ℕ) (es : List Entry) → vertex_me
 entry_of v path es = search (rules, the_lemmas)
 
 -- an operation has one port
-pub op_mean : (t : Transform) (path : List ℕ) (ports : List Flow) → work_mean (Op t) path ports ≡ at path t ports ∷ []
+pub op_mean : (t : Transform) (path : List ℕ) (ports : List ByPath) → work_mean (Op t) path ports ≡ at path t ports ∷ []
 op_mean t path ports = search (rules, the_lemmas)
 
 abbrev pub has_entry : List Entry → List ℕ → Bool

@@ -5,8 +5,7 @@ use Rattle.std.specs.List.{list_any}
 use Rattle.std.specs.Ordering.{nat_cmp, is_eq}
 use Rattle.std.proofs.lemmas.List.{take_more, drop_more, reverse-append}
 use Rattle.std.proofs.lemmas.Map.Text.{is_eq-slice_cmp}
-use Rattle.nemo_job.specs.Chain.{all_new}
-use Rattle.nemo_job.specs.Mean.{same_text}
+use Rattle.nemo_value.specs.Texts.{same_text, all_new}
 
 -- the names seen, the last first
 abbrev pub seen_at : ℕ → List (List ℕ) → List (List ℕ)

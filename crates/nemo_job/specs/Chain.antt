@@ -1,11 +1,11 @@
 -- Chains: a source, maps and a sink, each fed by the one before it.
 use Rattle.std.specs.Prelude.{ℕ, ◌==◌, ◌&&◌, List, [], ◌∷◌, length, map, nat_le, not, Bool, true, false}
 use Rattle.std.specs.List.{list_all, list_any}
+use Rattle.nemo_value.specs.Texts.{same_text, all_new}
 use Rattle.nemo_value.specs.declared.expr.Expr.{Expr}
 use Rattle.nemo_value.specs.declared.expr.Expr.TheVariants.{Get, Const}
 use Rattle.nemo_transform.specs.Gives.{is_filled}
 use Rattle.nemo_transform.specs.declared.transform.Transform.TheVariants.{Source, Map, Sink}
-use Rattle.nemo_job.specs.Mean.{same_text}
 use Rattle.nemo_job.specs.declared.vertex.JobVertex.{JobVertex}
 use Rattle.nemo_job.specs.declared.vertex.Ref.{Ref}
 use Rattle.nemo_job.specs.declared.vertex.Work.{Work}
@@ -44,11 +44,6 @@ abbrev pub links : List ℕ → List JobVertex → Bool
 links name [] = false
 links name (v ∷ []) = is_end v.name v.work && follows name v.inputs
 links name (v ∷ w ∷ vs) = is_map v.work && follows name v.inputs && links v.name (w ∷ vs)
-
--- no name stands among those seen, nor twice
-abbrev pub all_new : List (List ℕ) → List (List ℕ) → Bool
-all_new seen [] = true
-all_new seen (n ∷ ns) = not (list_any (same_text n) seen) && all_new (n ∷ seen) ns
 
 abbrev pub names_of : List JobVertex → List (List ℕ)
 names_of vs = map (λ v. v.name) vs

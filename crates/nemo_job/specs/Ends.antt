@@ -7,5 +7,5 @@ use Rattle.nemo_job.specs.declared.vertex.JobVertex.{JobVertex}
 
 -- it is the first fault of the job, or memory ran out
 abbrev pub IsEndOf : List JobVertex → JobEnd → Type 0
-IsEndOf vs (Fault name kind rec) = slice_get (job_faults vs) 0 ≡ Some (record { path = name; kind = kind; rec = rec })
+IsEndOf vs (Fault name kind rec) = slice_get (job_faults vs) 0 ≡ Some (record { vertex = name; kind = kind; rec = rec })
 IsEndOf vs NoMemory = Unit {0}

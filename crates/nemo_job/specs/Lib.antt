@@ -1,7 +1,6 @@
 pub mod Chain
 pub mod ChainRows
 pub mod Ends
-pub mod Flow
 pub mod Mean
 pub mod Paths
 pub mod Sinks

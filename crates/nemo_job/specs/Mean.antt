@@ -1,28 +1,29 @@
 -- What each vertex of a job gives, on whole inputs.
-use Rattle.std.specs.Prelude.{ℕ, zero, suc, ◌+◌, ◌==◌, List, [], ◌∷◌, ◌++◌, map, decimal, if◌then◌else◌, Bool}
-use Rattle.std.specs.Cmp.Lexicographic.{pointwise}
-use Rattle.nemo_job.specs.Flow.{Flow, port, at}
+use Rattle.std.specs.Prelude.{ℕ, zero, suc, ◌+◌, List, [], ◌∷◌, ◌++◌, map, decimal, if◌then◌else◌}
+use Rattle.nemo_value.specs.Texts.{same_text}
+use Rattle.nemo_transform.specs.Brought.{Brought, port, at}
 use Rattle.nemo_job.specs.declared.vertex.JobVertex.{JobVertex}
 use Rattle.nemo_job.specs.declared.vertex.Ref.{Ref}
 use Rattle.nemo_job.specs.declared.vertex.Work.{Work}
 use Rattle.nemo_job.specs.declared.vertex.Work.TheFolds.{fold-Work, fold-JobVertex}
 use Rattle.nemo_job.specs.declared.vertex.Work.TheOpen.{Work-F, JobVertex-F}
 
+-- what a port brings, in which a vertex is named by its path
+abbrev pub ByPath : Type 0
+ByPath = Brought (List ℕ)
+
 -- a vertex or a port of a loop by its name, with what each of its own ports gives
 pub record Entry : Type 0 where
   pub name : List ℕ
-  pub ports : List Flow
-
-abbrev pub same_text : List ℕ → List ℕ → Bool
-same_text = pointwise ◌==◌
+  pub ports : List ByPath
 
 -- what the first entry of a name gives
-abbrev pub ports_at : List ℕ → List Entry → List Flow
+abbrev pub ports_at : List ℕ → List Entry → List ByPath
 ports_at name [] = []
 ports_at name (e ∷ es) = if same_text e.name name then e.ports else ports_at name es
 
 -- what a reference names
-abbrev pub look : List Entry → Ref → Flow
+abbrev pub look : List Entry → Ref → ByPath
 look es r = port (ports_at r.name es) r.port
 
 -- each vertex in list order, on the entries before it
@@ -31,7 +32,7 @@ run [] es = es
 run (v ∷ vs) es = run vs (es ++ v es ∷ [])
 
 -- the ports of a turn under their names
-abbrev pub carried : List Flow → List (List ℕ) → List Entry
+abbrev pub carried : List ByPath → List (List ℕ) → List Entry
 carried [] names = []
 carried (f ∷ ports) [] = []
 carried (f ∷ ports) (name ∷ names) = record { name = name; ports = f ∷ [] } ∷ carried ports names
@@ -45,27 +46,27 @@ abbrev pub Vertex : Type 0
 Vertex = List ℕ → List Entry → Entry
 
 -- one turn of a loop
-abbrev pub turn : List (List ℕ) → List Vertex → List Ref → List ℕ → List Flow → List Flow
+abbrev pub turn : List (List ℕ) → List Vertex → List Ref → List ℕ → List ByPath → List ByPath
 turn carry body next path ports = map (look (run (map (λ v. v path) body) (carried ports carry))) next
 
 -- n turns from turn i on
-abbrev pub turns_from : ℕ → ℕ → (ℕ → List Flow → List Flow) → List Flow → List Flow
+abbrev pub turns_from : ℕ → ℕ → (ℕ → List ByPath → List ByPath) → List ByPath → List ByPath
 turns_from i zero f ports = ports
 turns_from i (suc n) f ports = turns_from (i + 1) n f (f i ports)
 
-abbrev pub work_step : Work-F (List ℕ → List Flow → List Flow) Vertex → List ℕ → List Flow → List Flow
+abbrev pub work_step : Work-F (List ℕ → List ByPath → List ByPath) Vertex → List ℕ → List ByPath → List ByPath
 work_step (Work-F.Op t) path ports = at path t ports ∷ []
 work_step (Work-F.Loop turns carry body next) path ports = turns_from 0 turns (λ i. turn carry body next (turn_path path i)) ports
 
-abbrev pub vertex_step : JobVertex-F (List ℕ → List Flow → List Flow) Vertex → Vertex
+abbrev pub vertex_step : JobVertex-F (List ℕ → List ByPath → List ByPath) Vertex → Vertex
 vertex_step v path es = record { name = v.name; ports = v.work (path ++ v.name) (map (look es) v.inputs) }
 
 -- what a work gives to each of its own ports, on its path and on what its ports bring
-abbrev pub work_mean : Work → List ℕ → List Flow → List Flow
-work_mean = fold-Work (List ℕ → List Flow → List Flow) Vertex work_step vertex_step
+abbrev pub work_mean : Work → List ℕ → List ByPath → List ByPath
+work_mean = fold-Work (List ℕ → List ByPath → List ByPath) Vertex work_step vertex_step
 
 abbrev pub vertex_mean : JobVertex → Vertex
-vertex_mean = fold-JobVertex (List ℕ → List Flow → List Flow) Vertex work_step vertex_step
+vertex_mean = fold-JobVertex (List ℕ → List ByPath → List ByPath) Vertex work_step vertex_step
 
 -- the entries of a job's vertices
 abbrev pub mean : List JobVertex → List Entry

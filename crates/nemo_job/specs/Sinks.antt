@@ -9,8 +9,9 @@ use Rattle.nemo_value.specs.Order.{record_cmp, text_cmp}
 use Rattle.nemo_value.specs.Sorting.{sorted}
 use Rattle.nemo_value.specs.declared.record.SinkRows.{SinkRows}
 use Rattle.nemo_transform.specs.declared.transform.Transform.TheVariants.{Sink}
-use Rattle.nemo_job.specs.Flow.{Flow, Arisen}
-use Rattle.nemo_job.specs.Mean.{mean, look, same_text}
+use Rattle.nemo_transform.specs.Brought.{Arisen}
+use Rattle.nemo_value.specs.Texts.{same_text}
+use Rattle.nemo_job.specs.Mean.{ByPath, mean, look}
 use Rattle.nemo_job.specs.Paths.{paths}
 use Rattle.nemo_job.specs.declared.vertex.JobVertex.{JobVertex}
 use Rattle.nemo_job.specs.declared.vertex.Work.{Work}
@@ -25,7 +26,7 @@ abbrev pub sinks_of : List JobVertex → List JobVertex
 sinks_of vs = filter (λ v. is_sink v.work) vs
 
 -- what reaches a vertex of this name
-abbrev pub reaching : List JobVertex → JobVertex → Flow
+abbrev pub reaching : List JobVertex → JobVertex → ByPath
 reaching vs v = look (mean vs) (record { name = v.name; port = 0 })
 
 abbrev pub sink_rows : List JobVertex → JobVertex → SinkRows
@@ -43,9 +44,9 @@ abbrev pub place_of : List (List ℕ) → List ℕ → ℕ
 place_of all path = unwrap_or (position (same_text path) all) 0
 
 -- by the copy where it arose, and then by kind and record
-abbrev pub arisen_cmp : List (List ℕ) → Arisen → Arisen → Ordering
-arisen_cmp all a b = ordering_then (nat_cmp (place_of all a.path) (place_of all b.path)) (ordering_then (kind_cmp a.kind b.kind) (record_cmp a.rec b.rec))
+abbrev pub arisen_cmp : List (List ℕ) → Arisen (List ℕ) → Arisen (List ℕ) → Ordering
+arisen_cmp all a b = ordering_then (nat_cmp (place_of all a.vertex) (place_of all b.vertex)) (ordering_then (kind_cmp a.kind b.kind) (record_cmp a.rec b.rec))
 
 -- the faults that reach a sink, in this order, each once
-abbrev pub job_faults : List JobVertex → List Arisen
+abbrev pub job_faults : List JobVertex → List (Arisen (List ℕ))
 job_faults vs = ascending (arisen_cmp (paths vs)) (flat_map (λ v. (reaching vs v).faults) (sinks_of vs))

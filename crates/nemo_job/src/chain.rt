@@ -1,5 +1,6 @@
 ghost use Rattle.std.specs.Prelude.{◌≡◌, [], IfOk};
 ghost use Rattle.std.specs.List.{list_all};
+ghost use Rattle.nemo_value.specs.Texts.{all_new};
 ghost use Rattle.nemo_job.specs.Chain as spec;
 
 use crate::vertex::{JobVertex, Ref, Work};
@@ -102,7 +103,7 @@ fn are_linked(name: &Name, vertices: &[JobVertex]) -> bool
 
 /// Whether no name comes twice.
 fn names_differ(alloc: Global, vertices: &[JobVertex]) -> Result<bool, NoMemory>
-    ensures { IfOk result (λ differ. differ ≡ spec.all_new [] (spec.names_of vertices.now)) }
+    ensures { IfOk result (λ differ. differ ≡ all_new [] (spec.names_of vertices.now)) }
 {
     let mut seen: BTreeSet<&str> = BTreeSet::new(alloc);
     for v in vertices {

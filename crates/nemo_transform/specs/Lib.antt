@@ -1,3 +1,5 @@
+pub mod Brought
 pub mod FaultOrder
 pub mod Gives
 pub mod Ports
+pub mod Soundness

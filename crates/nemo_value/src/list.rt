@@ -1,4 +1,4 @@
-ghost use Rattle.std.specs.Prelude.{◌≡◌, [], ◌∷◌, ◌++◌, ◌↔◌, IsTrue, IfOk, OnOk, OnErr, length, slice_get};
+ghost use Rattle.std.specs.Prelude.{◌≡◌, ◌<◌, [], ◌∷◌, ◌++◌, ◌↔◌, IsTrue, IfOk, OnOk, OnErr, length, slice_get, slice_set};
 ghost use Rattle.std.specs.Option.{option_copied};
 
 use crate::memory::NoMemory;
@@ -78,6 +78,16 @@ impl<T> List<T> {
         ensures { option_copied result ≡ slice_get self.now at }
     {
         self.items.get(at)
+    }
+
+    /// Puts an item in the place of another one.
+    pub fn set(&mut self, at: usize, item: T)
+    where
+        T: Drop,
+        requires { at < length self.old }
+        ensures { self.new ≡ slice_set self.old at item }
+    {
+        self.items[at] = item;
     }
 
     /// Puts an item at the end. Where no memory is left, the list stays as it was.

@@ -5,3 +5,9 @@ pub trait Same {
     fn same(&self, other: &Self) -> bool
         ensures { IsTrue result ↔ (self.now ≡ other.now) };
 }
+
+impl Same for u32 {
+    fn same(&self, other: &u32) -> bool {
+        *self == *other
+    }
+}

@@ -8,3 +8,9 @@ pub trait TryCopy: Drop {
     fn copy(&self, alloc: Global) -> Result<Self, NoMemory>
         ensures { IfOk result (λ copy. copy ≡ self.now) };
 }
+
+impl TryCopy for u32 {
+    fn copy(&self, _alloc: Global) -> Result<u32, NoMemory> {
+        Ok(*self)
+    }
+}

@@ -3,8 +3,8 @@ use Rattle.std.proofs.lemmas.List.{get_or-map, length-map}
 use Rattle.std.specs.Cmp.Lexicographic.{slice_cmp}
 use Rattle.std.specs.List.{list_any}
 use Rattle.std.specs.Ordering.{nat_cmp, is_eq}
-use Rattle.nemo_job.specs.Chain.{names_of, all_new}
-use Rattle.nemo_job.specs.Mean.{same_text}
+use Rattle.nemo_value.specs.Texts.{same_text, all_new}
+use Rattle.nemo_job.specs.Chain.{names_of}
 use Rattle.nemo_job.specs.declared.vertex.JobVertex.{JobVertex}
 use Rattle.nemo_job.proofs.NewNames.{seen_at, not_new, new_more, has_more}
 use Rattle.nemo_job.proofs.chain.names_differ.Goals as goal

@@ -2,8 +2,8 @@ use Rattle.std.proofs.Common.{◌≡◌, List, ℕ, [], drop}
 use Rattle.std.specs.Cmp.Lexicographic.{slice_cmp}
 use Rattle.std.specs.List.{list_any}
 use Rattle.std.specs.Ordering.{nat_cmp, is_eq}
-use Rattle.nemo_job.specs.Chain.{all_new, names_of}
-use Rattle.nemo_job.specs.Mean.{same_text}
+use Rattle.nemo_value.specs.Texts.{same_text, all_new}
+use Rattle.nemo_job.specs.Chain.{names_of}
 use Rattle.nemo_job.proofs.NewNames.{seen_at}
 use Rattle.nemo_job.proofs.chain.names_differ.Given as goal
 
