@@ -1,0 +1,12 @@
+-- Lists of cuts, which deal the buckets 0 to 255 to tasks.
+use Rattle.std.specs.Prelude.{ℕ, ◌*◌, ◌-◌, List, map}
+use Rattle.std.specs.List.{range_with_len}
+use Rattle.std.specs.Int.{div_ceil}
+
+-- where task i of n begins when all tasks get equally many buckets
+abbrev pub even_cut : ℕ → ℕ → ℕ
+even_cut n i = div_ceil (256 * i) n
+
+-- the beginnings of the tasks 1 to n - 1
+abbrev pub even_cuts : ℕ → List ℕ
+even_cuts n = map (even_cut n) (range_with_len 1 (n - 1))

@@ -1,0 +1,55 @@
+ghost use Rattle.std.specs.Prelude.{◌≡◌, ◌≤◌};
+ghost use Rattle.nemo_base.specs.Cuts.{even_cuts};
+
+use nemo_value::Same;
+use std::marker::Model;
+
+/// The most cuts that a vertex can have.
+const MAX_CUTS: usize = 63;
+
+/// Where the tasks of a vertex begin among the buckets 0 to 255, but for the first, which begins at 0: task i takes
+/// the buckets from cut i - 1 up to, but without, cut i. Contracts see the list of the cuts.
+#[derive(Clone, Debug, Drop)]
+pub struct Cuts {
+    places: [u16; MAX_CUTS],
+    count: usize,
+}
+
+impl Model for Cuts {
+    ghost use Rattle.std.specs.Prelude.{ℕ, List, take, ◌≤◌};
+
+    ghost Value = { List ℕ };
+
+    ghost view = { λ c. take c.count c.places };
+
+    ghost invariant = { λ c. c.count ≤ 63 };
+}
+
+impl Cuts {
+    /// The cuts that deal the buckets evenly to `n` tasks.
+    pub fn even(n: u32) -> Cuts
+        requires some { 1 ≤ n }
+        requires few { n ≤ 64 }
+        ensures { result ≡ even_cuts n }
+    {
+        let tasks = n as usize;
+        let count = tasks - 1;
+        let mut places = [0; MAX_CUTS];
+        for i in 0..count {
+            places[i] = (256 * (i + 1)).div_ceil(tasks) as u16;
+        }
+        Cuts { places, count }
+    }
+
+    pub fn as_slice(&self) -> &[u16]
+        ensures { result.now ≡ self.now }
+    {
+        &self.places[..self.count]
+    }
+}
+
+impl Same for Cuts {
+    fn same(&self, other: &Cuts) -> bool {
+        self.as_slice() == other.as_slice()
+    }
+}

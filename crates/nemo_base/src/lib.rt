@@ -1,0 +1,17 @@
+//! What plans, tasks and events are described by.
+#![tactic(auto)]
+
+mod annotation;
+mod cuts;
+mod graph;
+mod id;
+mod settings;
+mod soundness;
+mod why;
+
+pub use annotation::{Class, Flow, Keep, Pattern, Policy};
+pub use cuts::Cuts;
+pub use graph::{Home, Read, StageRow, TaskGraph, VertexRow};
+pub use id::{BlockId, TaskId};
+pub use settings::Settings;
+pub use why::Why;
