@@ -1,0 +1,5 @@
+pub mod Failing
+pub mod Holders
+pub mod Places
+pub mod Sound
+pub mod Turns
