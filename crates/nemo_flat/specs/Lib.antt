@@ -1,0 +1,3 @@
+pub mod FirstDag
+pub mod Flat
+pub mod Meaning
