@@ -1,4 +1,4 @@
 pub mod Filled
 pub mod Fronts
-pub mod Pairs
+pub mod Lengths
 pub mod Passing

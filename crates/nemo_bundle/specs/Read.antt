@@ -1,5 +1,5 @@
 -- What a JSON value stands for, where it has the form that is served.
-use Rattle.std.specs.Prelude.{ℕ, ℤ, pos, ◌&&◌, Bool, false, nat_le, if◌then◌else◌, List, [], ◌∷◌, length, Option, Some, None, option_map, option_and_then, is_none, ok_or, Result, Err, codes}
+use Rattle.std.specs.Prelude.{ℕ, ℤ, pos, negsuc, ◌^◌, nat_lt, ◌&&◌, Bool, false, nat_le, if◌then◌else◌, List, [], ◌∷◌, length, Option, Some, None, option_map, option_and_then, is_none, ok_or, Result, Err, codes}
 use Rattle.std.specs.List.{list_all}
 use Rattle.std.specs.Option.{option_or}
 use Rattle.std.specs.Ordering.{int_eq}
@@ -12,11 +12,20 @@ use Rattle.nemo_value.specs.declared.field.Field.{Field}
 use Rattle.nemo_value.specs.declared.field.Field.TheVariants.{Int, Text}
 use Rattle.nemo_transform.specs.declared.transform.Transform.{Transform}
 use Rattle.nemo_transform.specs.declared.transform.Transform.TheVariants.{Source, Map, Sink}
+use Rattle.nemo_value.specs.Texts.{same_text}
 use Rattle.nemo_job.specs.Chain.{is_chain}
-use Rattle.nemo_job.specs.Mean.{same_text}
 use Rattle.nemo_job.specs.declared.vertex.JobVertex.{JobVertex}
 use Rattle.nemo_job.specs.declared.vertex.Ref.{Ref}
 use Rattle.nemo_job.specs.declared.vertex.Work.TheVariants.{Op}
+use Rattle.nemo_base.specs.declared.annotation.Class.TheVariants.{Transient}
+use Rattle.nemo_base.specs.declared.annotation.Flow.TheVariants.{Pull}
+use Rattle.nemo_base.specs.declared.annotation.Keep.{Keep}
+use Rattle.nemo_base.specs.declared.annotation.Pattern.TheVariants.{OneToOne}
+use Rattle.nemo_ir.specs.declared.dag.IrDag.{IrDag}
+use Rattle.nemo_ir.specs.declared.dag.IrEdge.{IrEdge}
+use Rattle.nemo_ir.specs.declared.dag.IrVertex.{IrVertex}
+use Rattle.nemo_ir.specs.declared.dag.VertexKind.{VertexKind}
+use Rattle.nemo_ir.specs.declared.dag.VertexKind.TheVariants as kinds
 use Rattle.nemo_bundle.specs.Answers.{Refusal, unserved}
 use Rattle.nemo_bundle.specs.declared.bundle.Bundle.{Bundle}
 
@@ -146,6 +155,81 @@ vertex_named d name = vertex_with name (inputs_of d) (transform_of name d)
 abbrev pub vertex_of : Data → Option JobVertex
 vertex_of d = option_and_then (vertex_named d) (member_of (codes "name") name_of d)
 
+---- DAGs
+
+-- a whole number from 0 to 4,294,967,295
+abbrev pub small : ℤ → Option ℕ
+small (pos n) = if nat_lt n (2 ^ 32) then Some n else None
+small (negsuc n) = None
+
+abbrev pub number_of : Data → Option ℕ
+number_of d = option_and_then small (whole_of d)
+
+-- whether the text is there and is this word
+abbrev pub is_word : List ℕ → Option (List ℕ) → Bool
+is_word word (Some s) = same_text s word
+is_word word None = false
+
+-- an Op of one task on a transient machine with the transform of flat vertex x, which in a chain is transform x
+abbrev pub op_at : ℕ → IrVertex
+op_at x = record { kind = kinds.Op x; class = Transient; parallelism = 1 }
+
+-- `["op",x,"transient",1]`
+abbrev pub entry_from : Items → Option IrVertex
+entry_from (item kind (item x (item class (item tasks no_items)))) =
+    if is_word (codes "op") (as_str kind) && is_word (codes "transient") (as_str class) && is_exactly 1 (whole_of tasks)
+    then option_map op_at (number_of x)
+    else None
+entry_from _ = None
+
+abbrev pub entry_of : Data → Option IrVertex
+entry_of d = option_and_then entry_from (as_array d)
+
+-- whether an Op has the transform of a flat vertex, of which there are n
+abbrev pub is_among : ℕ → VertexKind → Bool
+is_among n (kinds.Op x) = nat_lt x n
+is_among n _ = false
+
+abbrev pub are_among : ℕ → List IrVertex → Bool
+are_among n us = list_all (λ u. is_among n u.kind) us
+
+abbrev pub edge_with : Option ℕ → Option ℕ → Option ℕ → Option IrEdge
+edge_with (Some from) (Some to) (Some port) = Some (record { from = from; to = to; port = port; pattern = OneToOne; flow = Pull; keep = Keep.Keep })
+edge_with (Some from) (Some to) None = None
+edge_with (Some from) None port = None
+edge_with None to port = None
+
+-- `[from,to,port,"one","pull","keep"]`
+abbrev pub edge_from : Items → Option IrEdge
+edge_from (item from (item to (item port (item pattern (item flow (item keep no_items)))))) =
+    if is_word (codes "one") (as_str pattern) && is_word (codes "pull") (as_str flow) && is_word (codes "keep") (as_str keep)
+    then edge_with (number_of from) (number_of to) (number_of port)
+    else None
+edge_from _ = None
+
+abbrev pub edge_of : Data → Option IrEdge
+edge_of d = option_and_then edge_from (as_array d)
+
+abbrev pub dag_with : Option (List IrVertex) → Option (List IrEdge) → Option (List ℕ) → Option IrDag
+dag_with (Some vertices) (Some edges) (Some rep) = Some (record { vertices = vertices; edges = edges; rep = rep })
+dag_with (Some vertices) (Some edges) None = None
+dag_with (Some vertices) None rep = None
+dag_with None edges rep = None
+
+-- the arrays `vertices`, `edges` and `rep`, for a flat job of n vertices
+abbrev pub dag_of : ℕ → Data → Option IrDag
+dag_of n d = dag_with (tested (are_among n) (member_of (codes "vertices") (array_of entry_of) d)) (member_of (codes "edges") (array_of edge_of) d) (member_of (codes "rep") (array_of number_of) d)
+
+-- the DAG of a member that may be absent
+abbrev pub dag_in : ℕ → Option Data → Option (Option IrDag)
+dag_in n (Some d) = option_map Some (dag_of n d)
+dag_in n None = Some None
+
+-- 1 to 64, and 4 where the member is absent
+abbrev pub parallelism_in : Option Data → Option ℕ
+parallelism_in (Some d) = tested (λ n. nat_le 1 n && nat_le n 64) (number_of d)
+parallelism_in None = Some 4
+
 ---- bundles
 
 -- the vertices of a job, which have to be a chain
@@ -154,15 +238,20 @@ job_of d = tested is_chain (member_of (codes "job") (array_of vertex_of) d)
 
 -- the members that a bundle may not have yet
 abbrev pub unserved_members : List (List ℕ)
-unserved_members = codes "cluster" ∷ codes "parallelism" ∷ codes "policy" ∷ codes "settings" ∷ codes "script" ∷ codes "schedule" ∷ codes "dag" ∷ []
+unserved_members = codes "cluster" ∷ codes "policy" ∷ codes "settings" ∷ codes "script" ∷ codes "schedule" ∷ []
 
 -- whether `nemo` is 1 and no such member is there
 abbrev pub is_served : Data → Bool
 is_served d = is_exactly 1 (member_of (codes "nemo") whole_of d) && list_all (λ name. is_none (get name d)) unserved_members
 
-abbrev pub bundle_with : List JobVertex → Bundle
-bundle_with vs = record { job = vs }
+abbrev pub bundle_with : List JobVertex → Option ℕ → Option (Option IrDag) → Option Bundle
+bundle_with vs (Some p) (Some dag) = Some (record { job = vs; parallelism = p; dag = dag })
+bundle_with vs (Some p) None = None
+bundle_with vs None dag = None
+
+abbrev pub bundle_from : Data → List JobVertex → Option Bundle
+bundle_from d vs = bundle_with vs (parallelism_in (get (codes "parallelism") d)) (dag_in (length vs) (get (codes "dag") d))
 
 -- the bundle that a value stands for, or its refusal
 abbrev pub bundle_of : Data → Result Bundle Refusal
-bundle_of d = if is_served d then ok_or (option_map bundle_with (job_of d)) unserved else Err unserved
+bundle_of d = if is_served d then ok_or (option_and_then (bundle_from d) (job_of d)) unserved else Err unserved

@@ -1,4 +1,4 @@
-ghost use Rattle.std.specs.Prelude.{◌≡◌, is_none};
+ghost use Rattle.std.specs.Prelude.{◌≡◌, ◌≤◌, is_none, IfOk};
 ghost use Rattle.std.specs.List.{list_all};
 ghost use Rattle.serde_json.specs.Find.{get};
 ghost use Rattle.serde_json.specs.View.{view};
@@ -6,8 +6,10 @@ ghost use Rattle.nemo_bundle.specs.Answers.{Gives, Reads};
 ghost use Rattle.nemo_bundle.specs.Read.{bundle_of, job_of};
 ghost use Rattle.nemo_bundle.specs.Read as spec;
 
+use crate::dags::{read_dag, read_parallelism};
 use crate::end::{BundleEnd, UNSERVED};
 use crate::read::read_member;
+use nemo_ir::IrDag;
 use nemo_job::{Job, JobVertex, is_chain};
 use nemo_value::List;
 use serde_json::Value;
@@ -17,31 +19,32 @@ use std::alloc::Global;
 const VERSION: i64 = 1;
 
 /// The members that a bundle may not have yet.
-const UNSERVED_MEMBERS: [&str; 7] = [
-    "cluster",
-    "parallelism",
-    "policy",
-    "settings",
-    "script",
-    "schedule",
-    "dag",
-];
+const UNSERVED_MEMBERS: [&str; 5] = ["cluster", "policy", "settings", "script", "schedule"];
 
-/// What a bundle asks for: a job.
+/// What a bundle asks for: a job, how many tasks its vertices may have, and the DAG that is proposed for it, if one is.
 #[derive(Debug, Drop)]
 pub struct Bundle {
     pub job: Job,
+    pub parallelism: u32,
+    pub dag: Option<IrDag>,
 }
 
 /// The bundle that a JSON value stands for. What has not the form that is served is refused with code 90 and place 0.
 pub fn read_bundle(alloc: Global, value: &Value) -> Result<Bundle, BundleEnd>
-    ensures { Gives result (bundle_of (view value.now)) }
+    ensures bundle { Gives result (bundle_of (view value.now)) }
+    ensures tasks { IfOk result (λ b. (1 ≤ b.parallelism) × (b.parallelism ≤ 64)) }
 {
     if !is_served(value) {
         return Err(UNSERVED);
     }
     let job = read_job(alloc, value)?;
-    Ok(Bundle { job })
+    let parallelism = read_parallelism(alloc, value)?;
+    let dag = read_dag(alloc, value, job.vertices().len())?;
+    Ok(Bundle {
+        job,
+        parallelism,
+        dag,
+    })
 }
 
 /// Whether `nemo` is the version, and no member is there that isn't served.

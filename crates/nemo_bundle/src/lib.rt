@@ -2,6 +2,7 @@
 #![tactic(auto)]
 
 mod bundle;
+mod dags;
 mod end;
 mod parts;
 mod read;

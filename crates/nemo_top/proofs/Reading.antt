@@ -1,17 +1,19 @@
 -- Content that was read to its end.
-use Rattle.std.proofs.Common.{◌≡◌, ◌∙◌, ap, sym, subst, ℕ, ◌-◌, ◌≤◌, List, [], ◌++◌, length, true, Option, Some, None, Err, append-nil, arith, refl}
+use Rattle.std.proofs.Common.{◌≡◌, ◌∙◌, ap, sym, subst, ℕ, ◌-◌, ◌≤◌, List, [], ◌++◌, length, true, Option, Some, None, Err, append-nil, arith, is_some}
 use Rattle.std.specs.Prelude.{IfSome}
 use Rattle.std.specs.Io.KnownBytes.{Consumes, IsAtEnd}
 use Rattle.serde_json.specs.Data.{Data}
 use Rattle.nemo_bundle.specs.Read.{bundle_of}
 use Rattle.nemo_bundle.specs.declared.bundle.Bundle.{Bundle}
-use Rattle.nemo_job.specs.Sinks.{job_faults, job_rows}
+use Rattle.nemo_job.specs.Sinks.{job_rows}
 use Rattle.nemo_report.specs.Texts.{sinks_text}
 use Rattle.nemo_io.specs.Told.{IfTold}
-use Rattle.nemo_top.specs.Outcome.{Answers, IsBundle, IsJson, LeadsTo}
-use Rattle.nemo_top.specs.Words.{is_command}
+use Rattle.nemo_top.specs.Outcome.{Answers, IsBundle, IsDagRefused, IsDone, IsDoneText, IsJson, LeadsTo, dag_of, done_text}
+use Rattle.nemo_top.specs.Words.{command_of, is_command}
 use Rattle.nemo_top.specs.declared.status.Status.{Status}
-use Rattle.nemo_top.specs.declared.status.Status.TheVariants.{Done, NotJson, BundleRefused, NoMemory}
+use Rattle.nemo_top.specs.declared.status.Status.TheVariants.{Done, NotJson, BundleRefused, DagRefused, NoMemory}
+use Rattle.nemo_top.specs.declared.word.Command.{Command}
+use Rattle.nemo_top.specs.declared.word.Command.TheVariants.{Eval, Check}
 
 -- all that there was is what was read
 all_is : (all rest bytes : List ℕ) → all ≡ bytes ++ rest → rest ≡ [] → bytes ≡ all
@@ -35,17 +37,30 @@ few (Some all) (Some rest) bytes taken at_end short =
     let none : length rest ≡ 0 = ap length at_end in
     omega arith
 
+is_asked : (words : List (List ℕ)) (command : Command) → command_of words ≡ Some command → is_command words ≡ true
+is_asked words command asked = ap is_some asked
+
+done_known : (command : Command) (b : Bundle) (text : List ℕ) → text ≡ done_text command b → IsDoneText command text
+done_known Eval b text h = (sinks_text (job_rows b.job), h)
+done_known Check b text h = (length (dag_of b).vertices, length (dag_of b).edges, h)
+
 -- what the bytes lead to is what the call answers
-pub answers_read : (words : List (List ℕ)) (before after : Option (List ℕ)) (faults now : ℕ) (bytes : List ℕ) (status : Status) (text : List ℕ)
-    → is_command words ≡ true → now ≡ faults → Consumes before after bytes → IsAtEnd after → length bytes ≤ 33554432 → LeadsTo bytes status text
+pub answers_read : (words : List (List ℕ)) (command : Command) (before after : Option (List ℕ)) (faults now : ℕ) (bytes : List ℕ) (status : Status) (text : List ℕ)
+    → command_of words ≡ Some command → now ≡ faults → Consumes before after bytes → IsAtEnd after → length bytes ≤ 33554432 → LeadsTo command bytes status text
     → Answers (record { words = words; before = before; after = after; faults_before = faults; faults_after = now }) status text
-answers_read words before after faults now bytes Done text asked kept taken at_end short leads = (
-  (asked, kept, few before after bytes taken at_end short, told before after bytes (λ all. (b : Bundle) × IsBundle all b × (job_faults b.job ≡ [])) taken at_end (leads.0, leads.1, leads.2)),
-  (sinks_text (job_rows leads.0.job), known before after bytes (λ all. (b : Bundle) × IsBundle all b × (sinks_text (job_rows leads.0.job) ≡ sinks_text (job_rows b.job))) taken at_end (leads.0, leads.1, refl), leads.3),
+answers_read words command before after faults now bytes Done text asked kept taken at_end short leads = (
+  (command, asked, kept, few before after bytes taken at_end short, told before after bytes (λ all. (b : Bundle) × IsBundle all b × IsDone command b) taken at_end (leads.0, leads.1, leads.2)),
+  (command, asked, done_known command leads.0 text leads.3, known before after bytes (λ all. (b : Bundle) × IsBundle all b × (text ≡ done_text command b)) taken at_end (leads.0, leads.1, leads.3)),
 )
-answers_read words before after faults now bytes NotJson text asked kept taken at_end short leads =
-    ((asked, kept, few before after bytes taken at_end short, told before after bytes (λ all. (d : Data) → ¬ IsJson all d) taken at_end leads.0), leads.1)
-answers_read words before after faults now bytes (BundleRefused code place) text asked kept taken at_end short leads =
-    ((asked, kept, few before after bytes taken at_end short, told before after bytes (λ all. (d : Data) × IsJson all d × (bundle_of d ≡ Err (record { code = code; place = place }))) taken at_end (leads.0, leads.1, leads.2)), leads.3)
-answers_read words before after faults now bytes NoMemory text asked kept taken at_end short line = ((asked, kept, few before after bytes taken at_end short), line)
-answers_read words before after faults now bytes _ text asked kept taken at_end short leads = absurd leads
+answers_read words command before after faults now bytes NotJson text asked kept taken at_end short leads =
+    ((is_asked words command asked, kept, few before after bytes taken at_end short, told before after bytes (λ all. (d : Data) → ¬ IsJson all d) taken at_end leads.0), leads.1)
+answers_read words command before after faults now bytes (BundleRefused code place) text asked kept taken at_end short leads = (
+  (is_asked words command asked, kept, few before after bytes taken at_end short, told before after bytes (λ all. (d : Data) × IsJson all d × (bundle_of d ≡ Err (record { code = code; place = place }))) taken at_end (leads.0, leads.1, leads.2)),
+  leads.3,
+)
+answers_read words command before after faults now bytes (DagRefused clause index) text asked kept taken at_end short leads = (
+  (command, asked, kept, few before after bytes taken at_end short, told before after bytes (λ all. (b : Bundle) × IsBundle all b × IsDagRefused command b clause index) taken at_end (leads.0, leads.1, leads.2)),
+  leads.3,
+)
+answers_read words command before after faults now bytes NoMemory text asked kept taken at_end short line = ((is_asked words command asked, kept, few before after bytes taken at_end short), line)
+answers_read words command before after faults now bytes _ text asked kept taken at_end short leads = absurd leads

@@ -1,5 +1,5 @@
 -- What a call answers, and why.
-use Rattle.std.specs.Prelude.{◌≡◌, ◌<◌, ◌≤◌, ◌-◌, ℕ, List, [], ◌++◌, length, true, false, Option, Some, IfSome, IsUtf8, Ok, Err}
+use Rattle.std.specs.Prelude.{◌≡◌, ◌<◌, ◌≤◌, ◌-◌, ℕ, List, [], ◌++◌, length, true, false, Option, Some, None, IfSome, IsUtf8, Ok, Err, unwrap_or}
 use Rattle.serde_json.specs.Data.{Data}
 use Rattle.serde_json.specs.Read.{read}
 use Rattle.nemo_io.specs.Faults.{Rose}
@@ -7,11 +7,18 @@ use Rattle.nemo_io.specs.Told.{IfTold}
 use Rattle.nemo_job.specs.Sinks.{job_faults, job_rows}
 use Rattle.nemo_bundle.specs.Read.{bundle_of}
 use Rattle.nemo_bundle.specs.declared.bundle.Bundle.{Bundle}
+use Rattle.nemo_flat.specs.Flat.{flat_of}
+use Rattle.nemo_ir.specs.Flat.{FlatForm}
+use Rattle.nemo_ir.specs.Valid.{Valid, FirstFailure}
+use Rattle.nemo_ir.specs.declared.dag.IrDag.{IrDag}
+use Rattle.nemo_policy.specs.Passes.{plain_dag}
 use Rattle.nemo_report.specs.Texts.{sinks_text}
-use Rattle.nemo_top.specs.Statuses.{last_line}
-use Rattle.nemo_top.specs.Words.{is_command}
+use Rattle.nemo_top.specs.Statuses.{last_line, accepted_line}
+use Rattle.nemo_top.specs.Words.{command_of, is_command}
+use Rattle.nemo_top.specs.declared.word.Command.{Command}
+use Rattle.nemo_top.specs.declared.word.Command.TheVariants.{Eval, Check}
 use Rattle.nemo_top.specs.declared.status.Status.{Status}
-use Rattle.nemo_top.specs.declared.status.Status.TheVariants.{Done, Usage, ReadFault, WriteFault, NotJson, TooLong, BundleRefused, NoMemory}
+use Rattle.nemo_top.specs.declared.status.Status.TheVariants.{Done, Usage, ReadFault, WriteFault, NotJson, TooLong, BundleRefused, DagRefused, NoMemory}
 
 -- a call as it is seen from outside: its words, and the source before and after it, its content where that is told, and the count of its faults
 pub record Call : Type 0 where
@@ -51,9 +58,42 @@ TakesMany call = IfTold call.before call.after (λ all rest. 33554432 < length a
 abbrev pub ReadsAll : Call → (List ℕ → Type 0) → Type 0
 ReadsAll call P = IfTold call.before call.after (λ all rest. (rest ≡ []) × P all)
 
+-- the DAG of a bundle: the one that it proposes, or what the plain policy makes of its job
+abbrev pub dag_of : Bundle → IrDag
+dag_of b = unwrap_or b.dag (plain_dag (flat_of b.job) b.parallelism)
+
+-- when a command ends as asked: `eval` where no fault reaches a sink, `check` where the DAG is valid
+abbrev pub IsDone : Command → Bundle → Type 0
+IsDone Eval b = job_faults b.job ≡ []
+IsDone Check b = Valid (flat_of b.job) (dag_of b)
+
+-- what it then writes: the sinks of the job and a last line, or how large the DAG is
+abbrev pub done_text : Command → Bundle → List ℕ
+done_text Eval b = sinks_text (job_rows b.job) ++ last_line Done
+done_text Check b = accepted_line (length (dag_of b).vertices) (length (dag_of b).edges)
+
+-- what is known of that text where the source tells no content
+abbrev pub IsDoneText : Command → List ℕ → Type 0
+IsDoneText Eval text = (sinks : List ℕ) × (text ≡ sinks ++ last_line Done)
+IsDoneText Check text = (n : ℕ) × (m : ℕ) × (text ≡ accepted_line n m)
+
+-- the DAG that was proposed fails first there
+abbrev pub FailsFirst : FlatForm → Option IrDag → ℕ → ℕ → Type 0
+FailsFirst flat (Some dag) clause index = FirstFailure flat dag clause index
+FailsFirst flat None clause index = ⊥
+
+-- `check` alone looks at it
+abbrev pub IsDagRefused : Command → Bundle → ℕ → ℕ → Type 0
+IsDagRefused Eval b clause index = ⊥
+IsDagRefused Check b clause index = FailsFirst (flat_of b.job) b.dag clause index
+
+-- the words are this command, and the content is a bundle of which P holds for it
+abbrev pub Finds : Call → (Command → Bundle → Type 0) → Type 0
+Finds call P = (command : Command) × (command_of call.words ≡ Some command) × ReadsWell call × TakesFew call × ReadsAll call (λ all. (b : Bundle) × IsBundle all b × P command b)
+
 -- why a call answers a status, where no write fails
 abbrev pub HasCause : Call → Status → Type 0
-HasCause call Done = Commands call × ReadsWell call × TakesFew call × ReadsAll call (λ all. (b : Bundle) × IsBundle all b × (job_faults b.job ≡ []))
+HasCause call Done = Finds call IsDone
 HasCause call Usage = (is_command call.words ≡ false) × ReadsWell call × (call.after ≡ call.before)
 HasCause call ReadFault = Commands call × Rose call.faults_before call.faults_after × TakesFew call
 HasCause call WriteFault = ⊥
@@ -61,22 +101,50 @@ HasCause call NotJson = Commands call × ReadsWell call × TakesFew call × Read
 HasCause call TooLong = Commands call × ReadsWell call × TakesMany call
 HasCause call (BundleRefused code place) = Commands call × ReadsWell call × TakesFew call
     × ReadsAll call (λ all. (d : Data) × IsJson all d × (bundle_of d ≡ Err (record { code = code; place = place })))
+HasCause call (DagRefused clause index) = Finds call (λ command b. IsDagRefused command b clause index)
 HasCause call NoMemory = Commands call × ReadsWell call × TakesFew call
 
--- the text of a status: for Done the sinks of the job that the content is, and then the last line
+-- the text of a status
 abbrev pub IsOutput : Call → Status → List ℕ → Type 0
-IsOutput call Done text = (sinks : List ℕ) × IfSome call.before (λ all. (b : Bundle) × IsBundle all b × (sinks ≡ sinks_text (job_rows b.job))) × (text ≡ sinks ++ last_line Done)
+IsOutput call Done text = (command : Command) × (command_of call.words ≡ Some command) × IsDoneText command text
+    × IfSome call.before (λ all. (b : Bundle) × IsBundle all b × (text ≡ done_text command b))
 IsOutput call status text = text ≡ last_line status
 
 -- a status with its cause, and its text
 abbrev pub Answers : Call → Status → List ℕ → Type 0
 Answers call status text = HasCause call status × IsOutput call status text
 
+-- what a DAG that was proposed leads to
+abbrev pub Checks : FlatForm → IrDag → Status → List ℕ → Type 0
+Checks flat dag Done text = Valid flat dag × (text ≡ accepted_line (length dag.vertices) (length dag.edges))
+Checks flat dag (DagRefused clause index) text = FirstFailure flat dag clause index × (text ≡ last_line (DagRefused clause index))
+Checks flat dag NoMemory text = text ≡ last_line NoMemory
+Checks flat dag _ text = ⊥
+
+-- what the refusal of a DAG leads to
+abbrev pub IsRefusedDag : ℕ → ℕ → Status → List ℕ → Type 0
+IsRefusedDag c i (DagRefused clause index) text = (clause ≡ c) × (index ≡ i) × (text ≡ last_line (DagRefused c i))
+IsRefusedDag c i NoMemory text = text ≡ last_line NoMemory
+IsRefusedDag c i _ text = ⊥
+
+-- what a DAG that is valid leads to
+abbrev pub Accepts : FlatForm → IrDag → Status → List ℕ → Type 0
+Accepts flat dag Done text = Valid flat dag × (text ≡ accepted_line (length dag.vertices) (length dag.edges))
+Accepts flat dag NoMemory text = text ≡ last_line NoMemory
+Accepts flat dag _ text = ⊥
+
+-- what the line that says so leads to
+abbrev pub IsSized : IrDag → Status → List ℕ → Type 0
+IsSized dag Done text = text ≡ accepted_line (length dag.vertices) (length dag.edges)
+IsSized dag NoMemory text = text ≡ last_line NoMemory
+IsSized dag _ text = ⊥
+
 -- what a bundle leads to
-abbrev pub Runs : Bundle → Status → List ℕ → Type 0
-Runs b Done text = (job_faults b.job ≡ []) × (text ≡ sinks_text (job_rows b.job) ++ last_line Done)
-Runs b NoMemory text = text ≡ last_line NoMemory
-Runs b _ text = ⊥
+abbrev pub Runs : Command → Bundle → Status → List ℕ → Type 0
+Runs command b Done text = IsDone command b × (text ≡ done_text command b)
+Runs command b (DagRefused clause index) text = IsDagRefused command b clause index × (text ≡ last_line (DagRefused clause index))
+Runs command b NoMemory text = text ≡ last_line NoMemory
+Runs command b _ text = ⊥
 
 -- what a refusal leads to
 abbrev pub Refuses : ℕ → ℕ → Status → List ℕ → Type 0
@@ -85,9 +153,10 @@ Refuses c p NoMemory text = text ≡ last_line NoMemory
 Refuses c p _ text = ⊥
 
 -- what content that was read to its end leads to
-abbrev pub LeadsTo : List ℕ → Status → List ℕ → Type 0
-LeadsTo all Done text = (b : Bundle) × IsBundle all b × (job_faults b.job ≡ []) × (text ≡ sinks_text (job_rows b.job) ++ last_line Done)
-LeadsTo all NotJson text = ((d : Data) → ¬ IsJson all d) × (text ≡ last_line NotJson)
-LeadsTo all (BundleRefused code place) text = (d : Data) × IsJson all d × (bundle_of d ≡ Err (record { code = code; place = place })) × (text ≡ last_line (BundleRefused code place))
-LeadsTo all NoMemory text = text ≡ last_line NoMemory
-LeadsTo all _ text = ⊥
+abbrev pub LeadsTo : Command → List ℕ → Status → List ℕ → Type 0
+LeadsTo command all Done text = (b : Bundle) × IsBundle all b × IsDone command b × (text ≡ done_text command b)
+LeadsTo command all NotJson text = ((d : Data) → ¬ IsJson all d) × (text ≡ last_line NotJson)
+LeadsTo command all (BundleRefused code place) text = (d : Data) × IsJson all d × (bundle_of d ≡ Err (record { code = code; place = place })) × (text ≡ last_line (BundleRefused code place))
+LeadsTo command all (DagRefused clause index) text = (b : Bundle) × IsBundle all b × IsDagRefused command b clause index × (text ≡ last_line (DagRefused clause index))
+LeadsTo command all NoMemory text = text ≡ last_line NoMemory
+LeadsTo command all _ text = ⊥

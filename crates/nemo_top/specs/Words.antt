@@ -1,8 +1,13 @@
 -- The words of the command line.
-use Rattle.std.specs.Prelude.{ℕ, ◌==◌, List, [], ◌∷◌, Bool, false, codes}
-use Rattle.std.specs.Cmp.Lexicographic.{pointwise}
+use Rattle.std.specs.Prelude.{ℕ, List, [], ◌∷◌, Bool, Option, Some, None, is_some, codes, if◌then◌else◌}
+use Rattle.nemo_value.specs.Texts.{same_text}
+use Rattle.nemo_top.specs.declared.word.Command.{Command}
+use Rattle.nemo_top.specs.declared.word.Command.TheVariants.{Eval, Check}
 
--- the one command
+-- a command is one word
+abbrev pub command_of : List (List ℕ) → Option Command
+command_of (word ∷ []) = if same_text word (codes "eval") then Some Eval else (if same_text word (codes "check") then Some Check else None)
+command_of _ = None
+
 abbrev pub is_command : List (List ℕ) → Bool
-is_command (word ∷ []) = pointwise ◌==◌ word (codes "eval")
-is_command _ = false
+is_command words = is_some (command_of words)

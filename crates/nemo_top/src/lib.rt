@@ -1,6 +1,8 @@
 //! The top call: a command from its words and its source to its sink.
 #![tactic(auto)]
 
+mod accepting;
+mod lines;
 mod plain;
 mod reach;
 mod status;

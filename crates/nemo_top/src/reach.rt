@@ -1,4 +1,4 @@
-ghost use Rattle.std.specs.Prelude.{◌≡◌, ◌++◌, ◌∷◌, [], true, IfOk, IfErr, codes, decimal};
+ghost use Rattle.std.specs.Prelude.{◌≡◌, ◌≤◌, ◌++◌, [], IfOk, IfErr, codes};
 ghost use Rattle.std.specs.Cow.{cow_slice_items};
 ghost use Rattle.serde_json.specs.View.{view};
 ghost use Rattle.serde_json.specs.Data.{Data};
@@ -7,10 +7,11 @@ ghost use Rattle.nemo_bundle.specs.Read.{bundle_of};
 ghost use Rattle.nemo_job.specs.Sinks.{job_faults, job_rows};
 ghost use Rattle.nemo_report.specs.Texts.{sinks_text};
 ghost use Rattle.nemo_top.specs.Outcome.{Answers, call_of, IsJson, LeadsTo, Refuses, Runs};
-ghost use Rattle.nemo_top.specs.Statuses.{last_line, is_known};
 
+use crate::accepting::check_bundle;
+use crate::lines::{Reached, numbered_line, with_line};
 use crate::status::Status;
-use crate::word::{Word, is_command};
+use crate::word::{Command, Word, command_of};
 use nemo_bundle::{Bundle, BundleEnd, read_bundle};
 use nemo_io::{ReadRefused, Source, read_to_end};
 use nemo_job::{Job, JobEnd, eval_job};
@@ -20,62 +21,29 @@ use serde_json::Value;
 use std::alloc::Global;
 use std::borrow::CowSlice;
 
-/// A status that was reached before anything is written, with its text.
-#[derive(Drop)]
-pub struct Reached {
-    pub status: Status,
-    pub text: CowSlice<'static, u8>,
-}
-
 /// What the words and the source's content lead to.
 pub fn reach<S: Source>(alloc: Global, words: &[Word], source: &mut S) -> Reached
     ensures { let call = call_of words.now (S.left source.old) (S.left source.new) (S.faults source.old) (S.faults source.new) in
         Answers call result.status (cow_slice_items result.text) }
 {
-    if !is_command(words) {
+    let Some(command) = command_of(words) else {
         return with_line(Status::Usage);
-    }
+    };
     match read_to_end(alloc, source) {
-        Ok(bytes) => evaluate(alloc, bytes),
+        Ok(bytes) => evaluate(alloc, command, bytes),
         Err(ReadRefused::Failed) => with_line(Status::ReadFault),
         Err(ReadRefused::TooLong) => with_line(Status::TooLong),
         Err(ReadRefused::NoMemory) => with_line(Status::NoMemory),
     }
 }
 
-/// A status whose text is a line that is known.
-fn with_line(status: Status) -> Reached
-    requires { is_known status ≡ true }
-    ensures status { result.status ≡ status }
-    ensures line { cow_slice_items result.text ≡ last_line status }
-{
-    Reached {
-        status,
-        text: CowSlice::Borrowed(line_of(&status)),
-    }
-}
-
-fn line_of(status: &Status) -> &'static [u8]
-    requires { is_known status.now ≡ true }
-    ensures { result.now ≡ last_line status.now }
-{
-    match status {
-        Status::Usage => b"usage\n",
-        Status::ReadFault => b"read fault\n",
-        Status::NotJson => b"not json\n",
-        Status::TooLong => b"too long\n",
-        Status::NoMemory => b"no memory\n",
-        _ => unreachable!(),
-    }
-}
-
 /// What the bytes lead to. They are dropped once they are read, and so is the JSON value.
-fn evaluate(alloc: Global, bytes: Vec<u8>) -> Reached
-    ensures { LeadsTo bytes.items result.status (cow_slice_items result.text) }
+fn evaluate(alloc: Global, command: Command, bytes: Vec<u8>) -> Reached
+    ensures { LeadsTo command bytes.items result.status (cow_slice_items result.text) }
 {
     match parse(alloc, bytes) {
         Ok(value) => match read(alloc, value) {
-            Ok(bundle) => run(alloc, &bundle),
+            Ok(bundle) => run(alloc, command, &bundle),
             Err(BundleEnd::Refused { code, place }) => refuse(alloc, code, place),
             Err(BundleEnd::NoMemory) => with_line(Status::NoMemory),
         },
@@ -106,14 +74,26 @@ fn parse(alloc: Global, bytes: Vec<u8>) -> Result<Value, ParseEnd>
 }
 
 fn read(alloc: Global, value: Value) -> Result<Bundle, BundleEnd>
-    ensures { Gives result (bundle_of (view value)) }
+    ensures bundle { Gives result (bundle_of (view value)) }
+    ensures tasks { IfOk result (λ b. (1 ≤ b.parallelism) × (b.parallelism ≤ 64)) }
 {
     read_bundle(alloc, &value)
 }
 
-/// What a bundle's job leads to.
-fn run(alloc: Global, bundle: &Bundle) -> Reached
-    ensures { Runs bundle.now result.status (cow_slice_items result.text) }
+/// What a bundle leads to.
+fn run(alloc: Global, command: Command, bundle: &Bundle) -> Reached
+    requires some { 1 ≤ bundle.now.parallelism }
+    requires few { bundle.now.parallelism ≤ 64 }
+    ensures { Runs command bundle.now result.status (cow_slice_items result.text) }
+{
+    match command {
+        Command::Eval => eval(alloc, bundle),
+        Command::Check => check_bundle(alloc, bundle),
+    }
+}
+
+fn eval(alloc: Global, bundle: &Bundle) -> Reached
+    ensures { Runs Command.Eval bundle.now result.status (cow_slice_items result.text) }
 {
     match eval_text(alloc, &bundle.job) {
         Ok(text) => Reached {
@@ -144,22 +124,11 @@ fn eval_text(alloc: Global, job: &Job) -> Result<Vec<u8>, NoMemory>
 fn refuse(alloc: Global, code: u32, place: u64) -> Reached
     ensures { Refuses code place result.status (cow_slice_items result.text) }
 {
-    match refusal_line(alloc, code, place) {
+    match numbered_line(alloc, b"bundle refused ", u64::from(code), place) {
         Ok(line) => Reached {
             status: Status::BundleRefused { code, place },
             text: CowSlice::Owned(line),
         },
         Err(NoMemory) => with_line(Status::NoMemory),
     }
-}
-
-fn refusal_line(alloc: Global, code: u32, place: u64) -> Result<Vec<u8>, NoMemory>
-    ensures { IfOk result (λ line. line.items ≡ codes "bundle refused " ++ decimal code ++ 32 ∷ [] ++ decimal place ++ 10 ∷ []) }
-{
-    let mut line = Vec::from_slice(alloc, b"bundle refused ")?;
-    line.extend_from_slice(code.to_string(alloc)?.as_bytes())?;
-    line.push(b' ')?;
-    line.extend_from_slice(place.to_string(alloc)?.as_bytes())?;
-    line.push(b'\n')?;
-    Ok(line)
 }

@@ -18,6 +18,8 @@ pub enum Status {
     TooLong,
     /// The JSON value is no bundle: the code of the first rule that it breaks, with the least place.
     BundleRefused { code: u32, place: u64 },
+    /// The DAG that was proposed isn't valid: the first clause that fails, with its least index.
+    DagRefused { clause: u32, index: u64 },
     /// No memory was left.
     NoMemory,
 }
@@ -41,6 +43,7 @@ impl Status {
             Status::NotJson => 5,
             Status::TooLong => 6,
             Status::BundleRefused { .. } => 7,
+            Status::DagRefused { .. } => 8,
             Status::NoMemory => 13,
         }
     }

@@ -31,12 +31,25 @@ impl Word {
     }
 }
 
-/// Whether the words are a command: `eval` alone.
-pub fn is_command(words: &[Word]) -> bool
-    ensures { result ≡ spec.is_command words.now }
+/// What the program is asked to do.
+#[derive(Clone, Copy, Debug, PartialEq, Eq)]
+pub enum Command {
+    /// To evaluate the job and print its sinks.
+    Eval,
+    /// To check the DAG.
+    Check,
+}
+
+/// The command that the words are: one word alone.
+pub fn command_of(words: &[Word]) -> Option<Command>
+    ensures { result ≡ spec.command_of words.now }
 {
     match words {
-        [word] => word.as_str() == "eval",
-        _ => false,
+        [word] => match word.as_str() {
+            "eval" => Some(Command::Eval),
+            "check" => Some(Command::Check),
+            _ => None,
+        },
+        _ => None,
     }
 }

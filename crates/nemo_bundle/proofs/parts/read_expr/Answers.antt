@@ -1,5 +1,5 @@
 use Rattle.std.proofs.Common.{rules}
-use Rattle.nemo_bundle.proofs.Pairs.{expr_of_fewer, expr_of_more}
+use Rattle.nemo_bundle.proofs.Lengths.{expr_of_fewer, expr_of_more}
 use Rattle.nemo_bundle.proofs.parts.read_expr.Goals as goal
 use Rattle.nemo_bundle.proofs.parts.read_expr.Goals.{in_default-via-then-items-lt2, in_default-via-else-items-lt2+else-items-lt3}
 

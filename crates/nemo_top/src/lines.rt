@@ -1,0 +1,58 @@
+ghost use Rattle.std.specs.Prelude.{◌≡◌, ◌++◌, ◌∷◌, [], true, IfOk, decimal};
+ghost use Rattle.std.specs.Cow.{cow_slice_items};
+ghost use Rattle.nemo_top.specs.Statuses.{last_line, is_known};
+
+use crate::status::Status;
+use nemo_value::NoMemory;
+use std::alloc::Global;
+use std::borrow::CowSlice;
+
+/// A status that was reached before anything is written, with its text.
+#[derive(Drop)]
+pub struct Reached {
+    pub status: Status,
+    pub text: CowSlice<'static, u8>,
+}
+
+/// A status whose text is a line that is known.
+pub(crate) fn with_line(status: Status) -> Reached
+    requires { is_known status ≡ true }
+    ensures status { result.status ≡ status }
+    ensures line { cow_slice_items result.text ≡ last_line status }
+{
+    Reached {
+        status,
+        text: CowSlice::Borrowed(line_of(&status)),
+    }
+}
+
+fn line_of(status: &Status) -> &'static [u8]
+    requires { is_known status.now ≡ true }
+    ensures { result.now ≡ last_line status.now }
+{
+    match status {
+        Status::Usage => b"usage\n",
+        Status::ReadFault => b"read fault\n",
+        Status::NotJson => b"not json\n",
+        Status::TooLong => b"too long\n",
+        Status::NoMemory => b"no memory\n",
+        _ => unreachable!(),
+    }
+}
+
+/// A line of a front, a number, a space and a number.
+pub(crate) fn numbered_line(
+    alloc: Global,
+    front: &[u8],
+    n: u64,
+    m: u64,
+) -> Result<Vec<u8>, NoMemory>
+    ensures { IfOk result (λ line. line.items ≡ front.now ++ decimal n ++ 32 ∷ [] ++ decimal m ++ 10 ∷ []) }
+{
+    let mut line = Vec::from_slice(alloc, front)?;
+    line.extend_from_slice(n.to_string(alloc)?.as_bytes())?;
+    line.push(b' ')?;
+    line.extend_from_slice(m.to_string(alloc)?.as_bytes())?;
+    line.push(b'\n')?;
+    Ok(line)
+}
