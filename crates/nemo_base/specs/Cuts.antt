@@ -1,5 +1,5 @@
 -- Lists of cuts, which deal the buckets 0 to 255 to tasks.
-use Rattle.std.specs.Prelude.{ℕ, ◌*◌, ◌-◌, List, map}
+use Rattle.std.specs.Prelude.{◌≡◌, ◌≤◌, ◌++◌, length, replicate, take, ℕ, ◌*◌, ◌-◌, List, map}
 use Rattle.std.specs.List.{range_with_len}
 use Rattle.std.specs.Int.{div_ceil}
 
@@ -10,3 +10,12 @@ even_cut n i = div_ceil (256 * i) n
 -- the beginnings of the tasks 1 to n - 1
 abbrev pub even_cuts : ℕ → List ℕ
 even_cuts n = map (even_cut n) (range_with_len 1 (n - 1))
+
+-- 63 places, of which the first have the cuts and the others 0
+abbrev pub padded : List ℕ → List ℕ
+padded cuts = cuts ++ replicate (63 - length cuts) 0
+
+pub record AreCuts (places : List ℕ) (count : ℕ) : Type 0 where
+  pub few : count ≤ 63
+  pub counted : length (take count places) ≡ count
+  pub rest : padded (take count places) ≡ places

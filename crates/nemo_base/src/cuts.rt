@@ -9,20 +9,25 @@ const MAX_CUTS: usize = 63;
 
 /// Where the tasks of a vertex begin among the buckets 0 to 255, but for the first, which begins at 0: task i takes
 /// the buckets from cut i - 1 up to, but without, cut i. Contracts see the list of the cuts.
-#[derive(Clone, Debug, Drop)]
+#[derive(Clone, Copy, Debug)]
 pub struct Cuts {
     places: [u16; MAX_CUTS],
     count: usize,
 }
 
 impl Model for Cuts {
-    ghost use Rattle.std.specs.Prelude.{ℕ, List, take, ◌≤◌};
+    ghost use Rattle.std.specs.Prelude.{ℕ, List, length, take};
+    ghost use Rattle.nemo_base.specs.Cuts.{AreCuts, padded};
 
     ghost Value = { List ℕ };
 
     ghost view = { λ c. take c.count c.places };
 
-    ghost invariant = { λ c. c.count ≤ 63 };
+    ghost invariant = { λ c. AreCuts c.places c.count };
+
+    ghost inverse = { λ cuts. record { places = padded cuts; count = length cuts } };
+
+    ghost inverse_ok = { λ c h i. record { places = h.rest i; count = h.counted i } };
 }
 
 impl Cuts {

@@ -1,4 +1,4 @@
-ghost use Rattle.std.specs.Prelude.{◌≡◌, ◌<◌, ◌+◌, ◌^◌, map, true, IfOk, IfErr, OnOk, OnErr, None, Some, length, slice_get};
+ghost use Rattle.std.specs.Prelude.{◌≡◌, ◌<◌, ◌^◌, [], map, true, IfOk, IfErr, OnOk, OnErr, None, Some, length, slice_get};
 ghost use Rattle.nemo_base.specs.Sound.{is_in, is_sound};
 ghost use Rattle.nemo_core.specs.Numbered.{map_at};
 ghost use Rattle.nemo_core.specs.Run.{refusal_in, stepped};
@@ -71,7 +71,8 @@ impl Core {
         })
     }
 
-    /// Takes an event, or refuses it with the first condition that fails. It takes no memory.
+    /// Takes an event, or refuses it with the first condition that fails and stays as it was. It takes no memory.
+    /// So far it takes Launch, Commit and Finish.
     pub fn step(&mut self, event: &Event) -> Result<(), Why>
         requires room { self.old.taken < 2 ^ 63 }
         requires built { is_built event.now ≡ true }
@@ -97,16 +98,16 @@ impl Core {
                 attempt,
                 task,
                 slot,
-                reads,
-            } => self.launch(*attempt, *task, *slot, reads),
+                reads: _,
+            } => self.launch(*attempt, *task, *slot),
             Event::Commit { attempt } => self.commit(*attempt),
             _ => self.finish(),
         }
     }
 
-    fn launch(&mut self, attempt: u64, task: TaskId, slot: u32, _reads: &List<u64>)
+    fn launch(&mut self, attempt: u64, task: TaskId, slot: u32)
         requires { self.old.taken < 2 ^ 63 }
-        ensures { self.new ≡ stepped self.old (Event.Launch attempt task slot _reads.now) }
+        ensures { self.new ≡ stepped self.old (Event.Launch attempt task slot []) }
     {
         launch(&mut self.tasks, attempt, task, slot);
         self.launches += 1;

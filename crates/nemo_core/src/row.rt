@@ -15,7 +15,7 @@ pub struct TaskRow {
 }
 
 /// The cuts of a vertex, and whether they are decided.
-#[derive(Debug, Drop)]
+#[derive(Clone, Copy, Debug)]
 pub struct CutsRow {
     pub cuts: Cuts,
     pub decided: bool,
