@@ -1,5 +1,5 @@
 -- Which blocks are wanted and which tasks are needed.
-use Rattle.std.specs.Prelude.{ℕ, zero, suc, ◌&&◌, ◌||◌, ◌==◌, Bool, true, false, List, [], ◌∷◌, Option, Some, None, nat_le, slice_get, if◌then◌else◌}
+use Rattle.std.specs.Prelude.{ℕ, zero, suc, ◌&&◌, ◌||◌, ◌==◌, Bool, true, false, List, [], ◌∷◌, Option, Some, None, max, slice_get, if◌then◌else◌}
 use Rattle.std.specs.List.{list_any, range_with_len}
 use Rattle.nemo_base.specs.declared.graph.Home.{Home}
 use Rattle.nemo_base.specs.declared.graph.Home.TheVariants.{Master, Pushed, Local}
@@ -51,13 +51,10 @@ abbrev pub needed_in : TaskGraph → (ℕ → ℕ → Bool) → ℕ → ℕ → 
 needed_in g gone zero stage i = false
 needed_in g gone (suc turns) stage i = list_any (λ v. gone v i && is_wanted_by g (needed_in g gone turns) v i) (blocks_of g stage)
 
-abbrev pub greater : ℕ → ℕ → ℕ
-greater a b = if nat_le a b then b else a
-
 -- how many ranks there are
 abbrev pub ranks : List StageRow → ℕ
 ranks [] = 0
-ranks (row ∷ rows) = greater (suc row.rank) (ranks rows)
+ranks (row ∷ rows) = max (suc row.rank) (ranks rows)
 
 -- with `gone` for the blocks that are gone
 abbrev pub needed : TaskGraph → (ℕ → ℕ → Bool) → ℕ → ℕ → Bool

@@ -1,5 +1,5 @@
 -- Which events are steps, and the state after each.
-use Rattle.std.specs.Prelude.{ℕ, suc, ◌+◌, ◌%◌, ◌==◌, ◌||◌, ◌&&◌, not, Bool, true, false, List, [], ◌∷◌, ◌++◌, Option, Some, None, map, length, slice_get, slice_index_or, is_some, is_none, nat_lt, nat_le, if◌then◌else◌}
+use Rattle.std.specs.Prelude.{ℕ, suc, max, ◌+◌, ◌%◌, ◌==◌, ◌||◌, ◌&&◌, not, Bool, true, false, List, [], ◌∷◌, ◌++◌, Option, Some, None, map, length, slice_get, slice_index_or, is_some, is_none, nat_lt, nat_le, if◌then◌else◌}
 use Rattle.std.specs.List.{list_all, list_any}
 use Rattle.nemo_base.specs.Sound.{passes}
 use Rattle.nemo_base.specs.declared.annotation.Class.{Class}
@@ -20,7 +20,7 @@ use Rattle.nemo_core.specs.declared.event.Outcome.TheVariants.{Going, Done, Faul
 use Rattle.nemo_core.specs.declared.row.Attempt.{Attempt}
 use Rattle.nemo_core.specs.declared.row.CutsRow.{CutsRow}
 use Rattle.nemo_core.specs.declared.row.TaskRow.{TaskRow}
-use Rattle.nemo_core.specs.Needed.{blocks_of, is_sink, greater}
+use Rattle.nemo_core.specs.Needed.{blocks_of, is_sink}
 use Rattle.nemo_core.specs.Numbered.{map_at, map_rows, any_at, row_at, item_at}
 use Rattle.nemo_core.specs.State.{State, task_at, runs, is_running, held_at, is_needed, is_wanted, blocks_read, reads_held, all_held, holder, is_number}
 
@@ -177,7 +177,7 @@ ended attempt row = if runs attempt row then idle row else row
 -- where block i of a vertex lies that an attempt on this slot makes. At least one slot is reserved.
 abbrev pub home_of : Settings → List ℕ → ℕ → ℕ → Home → Attempt → HeldBy
 home_of k incs attempt i Master a = record { slot = None; inc = 0; attempt = attempt }
-home_of k incs attempt i Pushed a = record { slot = Some (i % greater 1 k.reserved); inc = 0; attempt = attempt }
+home_of k incs attempt i Pushed a = record { slot = Some (i % max 1 k.reserved); inc = 0; attempt = attempt }
 home_of k incs attempt i Local a = record { slot = Some a.slot; inc = slice_index_or incs a.slot 0; attempt = attempt }
 
 -- who holds block i, which was gone, after the commit: this attempt, where the task runs it

@@ -1,5 +1,4 @@
-ghost use Rattle.std.specs.Prelude.{◌≡◌, ◌%◌, slice_get};
-ghost use Rattle.nemo_core.specs.Needed.{greater};
+ghost use Rattle.std.specs.Prelude.{◌≡◌, ◌%◌, max, slice_get};
 ghost use Rattle.nemo_core.specs.Numbered.{map_at};
 ghost use Rattle.nemo_core.specs.Step as spec;
 
@@ -128,12 +127,7 @@ fn home_of(
 }
 
 fn reserved_slot(i: usize, settings: Settings) -> u32
-    ensures { result ≡ i % greater 1 settings.reserved }
+    ensures { result ≡ i % max 1 settings.reserved }
 {
-    let slots = if 1 <= settings.reserved {
-        settings.reserved
-    } else {
-        1
-    };
-    (i % slots as usize) as u32
+    (i % settings.reserved.max(1) as usize) as u32
 }

@@ -101,7 +101,8 @@ impl Core {
                 reads: _,
             } => self.launch(*attempt, *task, *slot),
             Event::Commit { attempt } => self.commit(*attempt),
-            _ => self.finish(),
+            Event::Finish => self.finish(),
+            _ => unreachable!(),
         }
     }
 

@@ -62,9 +62,8 @@ fn ranks(stages: &[StageRow]) -> u64
 {
     match stages.split_first() {
         Some((row, rows)) => {
-            let others = ranks(rows);
-            let own = row.rank as u64 + 1;
-            if own <= others { others } else { own }
+            let own = u64::from(row.rank) + 1;
+            own.max(ranks(rows))
         }
         None => 0,
     }

@@ -31,7 +31,8 @@ impl Core {
                 reads,
             } => self.launch_refusal(*attempt, *task, *slot, reads.as_slice()),
             Event::Commit { attempt } => self.running_refusal(*attempt),
-            _ => self.finish_refusal(),
+            Event::Finish => self.finish_refusal(),
+            _ => unreachable!(),
         }
     }
 
