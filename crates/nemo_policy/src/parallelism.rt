@@ -10,7 +10,12 @@ use std::alloc::Global;
 
 /// The DAG with a parallelism for each vertex: a source gets no more tasks than it has rows, but at least 1, a vertex
 /// with a Keyed port gets `p`, and any other gets that of the producer on its port 0.
-pub fn set_parallelism(alloc: Global, flat: &FlatJob, dag: IrDag, p: u32) -> Result<IrDag, NoMemory>
+pub(crate) fn set_parallelism(
+    alloc: Global,
+    flat: &FlatJob,
+    dag: IrDag,
+    p: u32,
+) -> Result<IrDag, NoMemory>
     requires { p ≤ 64 }
     ensures { IfOk result (λ new. new ≡ spec.set_parallelism flat.now p dag) }
 {
@@ -40,11 +45,7 @@ fn with_tasks(
     let mut all = List::with_capacity(alloc, vertices.len())?;
     for u in vertices {
         let parallelism = tasks_of(flat, u.kind, before(all.as_slice(), edges), p);
-        all.push(IrVertex {
-            kind: u.kind,
-            class: u.class,
-            parallelism,
-        })?;
+        all.push(IrVertex { parallelism, ..*u })?;
     }
     Ok(all)
 }
@@ -69,7 +70,7 @@ fn producer_of(edges: &[IrEdge], to: usize) -> u32
 }
 
 /// The parallelism of a vertex, and 1 where there is none.
-pub fn tasks_at(vertices: &[IrVertex], number: u32) -> u32
+pub(crate) fn tasks_at(vertices: &[IrVertex], number: u32) -> u32
     ensures { result ≡ spec.tasks_at vertices.now number }
 {
     match vertices.get(number as usize) {

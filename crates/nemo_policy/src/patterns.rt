@@ -12,7 +12,7 @@ use std::alloc::Global;
 
 /// The DAG with a pattern for each edge: OneToOne into a Main port where both ends have equal parallelism and Spread
 /// where they don't, Hash into a Keyed port, and Broadcast into a Side port.
-pub fn set_patterns(alloc: Global, flat: &FlatJob, dag: IrDag) -> Result<IrDag, NoMemory>
+pub(crate) fn set_patterns(alloc: Global, flat: &FlatJob, dag: IrDag) -> Result<IrDag, NoMemory>
     ensures { IfOk result (λ new. new ≡ spec.set_patterns flat.now dag) }
 {
     let IrDag {
@@ -51,14 +51,7 @@ fn with_pattern(flat: &FlatJob, vertices: &[IrVertex], e: &IrEdge) -> IrEdge
         Some(u) => pattern_at(flat, u.kind, e.port, level, e.pattern),
         None => e.pattern,
     };
-    IrEdge {
-        from: e.from,
-        to: e.to,
-        port: e.port,
-        pattern,
-        flow: e.flow,
-        keep: e.keep,
-    }
+    IrEdge { pattern, ..*e }
 }
 
 /// The pattern into a port of a vertex of this kind; the old one where it has no such port.
