@@ -1,11 +1,10 @@
 -- The flat job of a chain.
 use Rattle.std.proofs.Common.{◌+◌, rules, arith, ◌≡◌, ◌∙◌, ap, sym, subst, refl, ℕ, zero, suc, ◌<◌, ◌≤◌, ◌==◌, List, [], ◌∷◌, ◌++◌, length, map, slice_get, Bool, true, false, not, ◌&&◌, ◌||◌, nat_le, nat_lt, Some, None, eq-eqb, inl, inr}
-use Rattle.std.proofs.lemmas.Bool.{cases_order, leb-true}
+use Rattle.std.proofs.lemmas.Bool.{cases_order}
 use Rattle.std.proofs.lemmas.List.{length-map}
 use Rattle.std.specs.Cmp.{first_so, second_so}
 use Rattle.std.specs.Cmp.Derive.{both_true}
 use Rattle.std.specs.List.{cons_option, filter_map, list_all, list_any}
-use Rattle.nemo_value.specs.Texts.{all_new}
 use Rattle.nemo_value.specs.declared.expr.Expr.{Expr}
 use Rattle.nemo_transform.specs.Ports.{kinds_of}
 use Rattle.nemo_transform.specs.Soundness.{is_sound}
@@ -16,7 +15,8 @@ use Rattle.nemo_ir.specs.Flat.{FlatForm, IsFlat, feeds_one, has_ports, is_input,
 use Rattle.nemo_ir.specs.declared.flat.FlatVertex.{FlatVertex}
 use Rattle.nemo_flat.specs.Flat.{each_at, copy_at, flat_of, one_before, operation}
 use Rattle.nemo_flat.proofs.Places.{all_at-whole, each_at-whole, each_at-length, got, list_all-each, list_all-whole, list_any-at, one_name, or_true, same_item}
-use Rattle.nemo_job.specs.Chain.{follows, has_fields, has_none, is_built, is_chain, is_end, is_map, is_plain, is_source, links, names_of}
+use Rattle.nemo_job.specs.Chain.{follows, is_built, is_end, is_map, is_plain, is_source, links, names_of}
+use Rattle.nemo_job.proofs.ChainMean.{parts}
 use Rattle.nemo_job.specs.Paths.{paths, vertex_paths}
 use Rattle.nemo_job.specs.declared.vertex.JobVertex.{JobVertex}
 use Rattle.nemo_job.specs.declared.vertex.Ref.{Ref}
@@ -218,27 +218,6 @@ pub record ChainIs (vs : List JobVertex) : Type 0 where
   pub some : 1 ≤ length (names_of vs)
   pub few : length vs ≤ 512
   pub flat : flat_of vs ≡ row_of (table vs) (names_of vs)
-
--- what a chain's test says of its parts
-pub record IsChain (s : JobVertex) (rest : List JobVertex) : Type 0 where
-  pub short : length rest ≤ 511
-  pub source : is_source s.work ≡ true
-  pub linked : links s.name rest ≡ true
-
-pub parts : (s : JobVertex) (rest : List JobVertex) → is_built (s ∷ rest) ≡ true → IsChain s rest
-parts s rest h =
-    let short = nat_le (length rest) 511 in
-    let names = all_new [] (names_of (s ∷ rest)) in
-    let chain : (short && is_source s.work && has_none s.inputs && links s.name rest && names) ≡ true = first_so (is_chain (s ∷ rest)) (list_all has_fields (s ∷ rest)) h in
-    let to_links : (short && is_source s.work && has_none s.inputs && links s.name rest) ≡ true = first_so (short && is_source s.work && has_none s.inputs && links s.name rest) names chain in
-    let to_free : (short && is_source s.work && has_none s.inputs) ≡ true = first_so (short && is_source s.work && has_none s.inputs) (links s.name rest) to_links in
-    let to_source : (short && is_source s.work) ≡ true = first_so (short && is_source s.work) (has_none s.inputs) to_free in
-    let below : nat_le (length rest) 511 ≡ true = first_so short (is_source s.work) to_source in
-    record {
-      short = leb-true (length rest) 511 below;
-      source = second_so short (is_source s.work) to_source;
-      linked = second_so (short && is_source s.work && has_none s.inputs) (links s.name rest) to_links;
-    }
 
 some_rest : (name : List ℕ) (rest : List JobVertex) → links name rest ≡ true → 1 ≤ length rest
 some_rest name [] h = cc

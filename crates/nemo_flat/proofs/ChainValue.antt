@@ -24,7 +24,8 @@ use Rattle.nemo_job.specs.declared.vertex.Work.TheVariants.{Op}
 use Rattle.nemo_job.proofs.Plain.{no_faults, rows_filled}
 use Rattle.nemo_flat.specs.Flat.{copy_at, each_at, flat_of}
 use Rattle.nemo_flat.specs.Meaning.{Reached, by_path, flat_faults, flat_rows, reached, under}
-use Rattle.nemo_flat.proofs.ChainFlat.{chain_is, end_op, map_op, nameless, parts, row_of, source_op, table, table_more}
+use Rattle.nemo_job.proofs.ChainMean.{parts}
+use Rattle.nemo_flat.proofs.ChainFlat.{chain_is, end_op, map_op, nameless, row_of, source_op, table, table_more}
 use Rattle.nemo_flat.proofs.Places.{each_at-length, each_at-whole, ended, from_none, got, last_only, same_item}
 use Rattle.nemo_job.proofs.ChainMean.{chain_rows, chain_sound}
 use Rattle.nemo_job.specs.Sinks.{arisen_cmp, by_name, job_faults, job_rows}

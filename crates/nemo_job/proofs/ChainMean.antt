@@ -1,6 +1,6 @@
 -- What a chain means: the rows that go through its maps reach its sink, and no fault does.
-use Rattle.std.proofs.Common.{◌≡◌, ◌∙◌, ap, sym, refl, ℕ, List, [], ◌∷◌, ◌++◌, Bool, true, false, ◌&&◌, ◌||◌, ◌==◌, not, nat_le, length, map, cond, Ok}
-use Rattle.std.proofs.lemmas.Bool.{eqb-true}
+use Rattle.std.proofs.Common.{◌≡◌, ◌≤◌, ◌∙◌, ap, sym, refl, ℕ, List, [], ◌∷◌, ◌++◌, Bool, true, false, ◌&&◌, ◌||◌, ◌==◌, not, nat_le, length, map, cond, Ok}
+use Rattle.std.proofs.lemmas.Bool.{eqb-true, leb-true}
 use Rattle.std.proofs.lemmas.List.Folds.{list_any-append}
 use Rattle.std.specs.Cmp.{first_so, second_so}
 use Rattle.std.specs.Cmp.Lexicographic.{nat_list_eq_equiv, same_text as same_bytes}
@@ -141,22 +141,25 @@ no_inputs [] es h = refl
 no_inputs (r ∷ rs) es h = cc
 
 -- what a chain's test says of its parts
-record IsChain (s : JobVertex) (rest : List JobVertex) : Type 0 where
-  source : is_source s.work ≡ true
-  free : has_none s.inputs ≡ true
-  linked : links s.name rest ≡ true
-  new : all_new (s.name ∷ []) (names_of rest) ≡ true
-  filled : source_filled s.work ≡ true
+pub record IsChain (s : JobVertex) (rest : List JobVertex) : Type 0 where
+  pub short : length rest ≤ 511
+  pub source : is_source s.work ≡ true
+  pub free : has_none s.inputs ≡ true
+  pub linked : links s.name rest ≡ true
+  pub new : all_new (s.name ∷ []) (names_of rest) ≡ true
+  pub filled : source_filled s.work ≡ true
 
-parts : (s : JobVertex) (rest : List JobVertex) → is_built (s ∷ rest) ≡ true → IsChain s rest
+pub parts : (s : JobVertex) (rest : List JobVertex) → is_built (s ∷ rest) ≡ true → IsChain s rest
 parts s rest h =
     let short = nat_le (length rest) 511 in
     let names = all_new [] (names_of (s ∷ rest)) in
     let chain : (short && is_source s.work && has_none s.inputs && links s.name rest && names) ≡ true = first_so (is_chain (s ∷ rest)) (list_all has_fields (s ∷ rest)) h in
     let to_links : (short && is_source s.work && has_none s.inputs && links s.name rest) ≡ true = first_so (short && is_source s.work && has_none s.inputs && links s.name rest) names chain in
     let to_free : (short && is_source s.work && has_none s.inputs) ≡ true = first_so (short && is_source s.work && has_none s.inputs) (links s.name rest) to_links in
+    let to_source : (short && is_source s.work) ≡ true = first_so (short && is_source s.work) (has_none s.inputs) to_free in
     record {
-      source = second_so short (is_source s.work) (first_so (short && is_source s.work) (has_none s.inputs) to_free);
+      short = leb-true (length rest) 511 (first_so short (is_source s.work) to_source);
+      source = second_so short (is_source s.work) to_source;
       free = second_so (short && is_source s.work) (has_none s.inputs) to_free;
       linked = second_so (short && is_source s.work && has_none s.inputs) (links s.name rest) to_links;
       new = second_so (short && is_source s.work && has_none s.inputs && links s.name rest) names chain;
