@@ -1,10 +1,6 @@
 -- Lists whose items are looked at with their places.
 use Rattle.std.specs.Prelude.{ℕ, ◌+◌, ◌||◌, Bool, false, List, [], ◌∷◌, Option, Some, None, slice_get, slice_index_or}
-
--- each item changed at its place, from a place on
-abbrev pub map_at : {X Y : Type 0} → (ℕ → X → Y) → ℕ → List X → List Y
-map_at f i [] = []
-map_at f i (x ∷ xs) = f i x ∷ map_at f (i + 1) xs
+pub use Rattle.nemo_base.specs.Numbered.{map_at}
 
 -- each item of each row changed at its two places
 abbrev pub map_rows : {X Y : Type 0} → (ℕ → ℕ → X → Y) → List (List X) → List (List Y)

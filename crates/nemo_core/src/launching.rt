@@ -1,4 +1,4 @@
-ghost use Rattle.std.specs.Prelude.{◌≡◌, ◌++◌, map, None, IfOk, IfErr, OnOk};
+ghost use Rattle.std.specs.Prelude.{◌≡◌, ◌++◌, map, None, IfOk, IfErr, IfSome, OnOk};
 ghost use Rattle.std.specs.List.{flat_map};
 ghost use Rattle.nemo_core.specs.Needed.{below};
 ghost use Rattle.nemo_core.specs.Reading.{Tells, first_of, launch_of, launchable, may_launch};
@@ -43,7 +43,8 @@ impl Core {
     /// The least task, by stage and place, that may be launched on the slot; none exactly where there is none. It
     /// takes no memory.
     pub fn launchable(&self, slot: u32) -> Option<TaskId>
-        ensures { result ≡ launchable self.now slot }
+        ensures least { result ≡ launchable self.now slot }
+        ensures allowed { IfSome result (λ task. refusal_in self.now (launch_of self.now task slot) ≡ None) }
     {
         for (stage, row) in self.graph.stages.as_slice().iter().enumerate() {
             if let Some(task) = self.launchable_in(stage as u32, row.parallelism, slot) {
@@ -54,7 +55,8 @@ impl Core {
     }
 
     fn launchable_in(&self, stage: u32, count: u32, slot: u32) -> Option<TaskId>
-        ensures { result ≡ first_of (may_launch self.now slot stage) (below count) }
+        ensures least { result ≡ first_of (may_launch self.now slot stage) (below count) }
+        ensures allowed { IfSome result (λ task. refusal_in self.now (launch_of self.now task slot) ≡ None) }
     {
         for index in 0..count {
             if let Some(task) = self.may_launch(TaskId { stage, index }, slot) {
@@ -65,7 +67,8 @@ impl Core {
     }
 
     fn may_launch(&self, task: TaskId, slot: u32) -> Option<TaskId>
-        ensures { result ≡ may_launch self.now slot task.stage task.index }
+        ensures least { result ≡ may_launch self.now slot task.stage task.index }
+        ensures allowed { IfSome result (λ task. refusal_in self.now (launch_of self.now task slot) ≡ None) }
     {
         if self.launch_refused(task, slot).is_some() {
             return None;

@@ -13,8 +13,10 @@ use Rattle.nemo_transform.specs.declared.transform.Transform.TheVariants.{Source
 use Rattle.nemo_ir.specs.Along.{passes}
 use Rattle.nemo_ir.specs.Flat.{FlatForm, IsFlat, feeds_one, has_ports, is_input, is_sink, sink_name, transform_of}
 use Rattle.nemo_ir.specs.declared.flat.FlatVertex.{FlatVertex}
-use Rattle.nemo_flat.specs.Flat.{each_at, copy_at, flat_of, one_before, operation}
-use Rattle.nemo_flat.proofs.Places.{all_at-whole, each_at-whole, each_at-length, got, list_all-each, list_all-whole, list_any-at, one_name, or_true, same_item}
+use Rattle.nemo_base.specs.Numbered.{map_at}
+use Rattle.nemo_ir.specs.Line.{one_before}
+use Rattle.nemo_flat.specs.Flat.{copy_at, flat_of, operation}
+use Rattle.nemo_ir.proofs.Places.{all_at-whole, map_at-whole, map_at-length, got, list_all-each, list_all-whole, list_any-at, one_name, or_true, same_item}
 use Rattle.nemo_job.specs.Chain.{follows, is_built, is_end, is_map, is_plain, is_source, links, names_of}
 use Rattle.nemo_job.proofs.ChainMean.{parts}
 use Rattle.nemo_job.specs.Paths.{paths, vertex_paths}
@@ -35,7 +37,7 @@ pub record IsRow (ts : List Transform) : Type 0 where
   pub last : (i : ℕ) (t : Transform) → slice_get ts i ≡ Some t → suc i ≡ length ts → is_sink (Some t) ≡ true
 
 abbrev pub row_of : List Transform → List (List ℕ) → FlatForm
-row_of ts names = record { transforms = ts; vertices = each_at copy_at 0 names }
+row_of ts names = record { transforms = ts; vertices = map_at copy_at 0 names }
 
 no_name : (t : Transform) → is_sink (Some t) ≡ false → sink_name (Some t) ≡ None
 no_name (Sink name) h = cc
@@ -51,8 +53,8 @@ takes_before ts names row size (suc j) h =
     let n = got names j (omega arith) in
     let t = got ts j (omega arith) in
     let test : FlatVertex → Bool = λ y. not (is_sink (transform_of (row_of ts names) y)) in
-    let other : passes test (slice_get (each_at copy_at 0 names) j) ≡ true =
-    ap (passes test) (each_at-whole copy_at names j n.0 n.1) ∙ ap (λ o. not (is_sink o)) t.1 ∙ ap not (row.inner j t.0 t.1 (omega arith)) in
+    let other : passes test (slice_get (map_at copy_at 0 names) j) ≡ true =
+    ap (passes test) (map_at-whole copy_at names j n.0 n.1) ∙ ap (λ o. not (is_sink o)) t.1 ∙ ap not (row.inner j t.0 t.1 (omega arith)) in
     both_true (both_true (lower j) other) refl
 
 ends_or_feeds : (ts : List Transform) (names : List (List ℕ)) → IsRow ts → length names ≡ length ts → (i : ℕ) → i < length names
@@ -69,7 +71,7 @@ ends_or_feeds ts names row size i h = elim (cases_order (suc i) (length names)) 
         let n = got names (suc i) d in
         let one : ((i == i) || false) ≡ true = ap (λ b. b || false) (eq-eqb i i refl) in
         ap (λ b. is_sink (slice_get ts i) || b)
-        (list_any-at (λ y. list_any (λ input. input == i) y.inputs) (each_at copy_at 0 names) (suc i) (copy_at (suc i) n.0) (each_at-whole copy_at names (suc i) n.0 n.1) one)
+        (list_any-at (λ y. list_any (λ input. input == i) y.inputs) (map_at copy_at 0 names) (suc i) (copy_at (suc i) n.0) (map_at-whole copy_at names (suc i) n.0 n.1) one)
         ∙ or_true (is_sink (slice_get ts i))
 
 fits : (ts : List Transform) (names : List (List ℕ)) → IsRow ts → length names ≡ length ts → (i : ℕ) (n : List ℕ) → i < length names
@@ -78,18 +80,18 @@ fits ts names row size i n h =
     let t = got ts i (omega arith) in
     ap (passes (λ u. length (kinds_of u) == length (one_before i))) t.1 ∙ eq-eqb (length (kinds_of t.0)) (length (one_before i)) (row.ports i t.0 t.1)
 
-pub nameless : (ts : List Transform) (names : List (List ℕ)) → IsRow ts → length names ≡ length ts → (i : ℕ) (x : FlatVertex) → slice_get (each_at copy_at 0 names) i ≡ Some x → suc i < length names
+pub nameless : (ts : List Transform) (names : List (List ℕ)) → IsRow ts → length names ≡ length ts → (i : ℕ) (x : FlatVertex) → slice_get (map_at copy_at 0 names) i ≡ Some x → suc i < length names
     → sink_name (slice_get ts x.transform) ≡ None
 nameless ts names row size i x e h =
     let n = got names i (omega arith) in
     let t = got ts i (omega arith) in
-    let is : copy_at i n.0 ≡ x = same_item (copy_at i n.0) x (sym (each_at-whole copy_at names i n.0 n.1) ∙ e) in
+    let is : copy_at i n.0 ≡ x = same_item (copy_at i n.0) x (sym (map_at-whole copy_at names i n.0 n.1) ∙ e) in
     ap (λ y. sink_name (slice_get ts y.transform)) (sym is) ∙ ap sink_name t.1 ∙ no_name t.0 (row.inner i t.0 t.1 (omega arith))
 
 pub flat_row : (ts : List Transform) (names : List (List ℕ)) → IsRow ts → length names ≡ length ts → 1 ≤ length names → length names ≤ 512 → IsFlat (row_of ts names)
 flat_row ts names row size some few =
     let flat = row_of ts names in
-    let count : length (each_at copy_at 0 names) ≡ length names = each_at-length copy_at 0 names in
+    let count : length (map_at copy_at 0 names) ≡ length names = map_at-length copy_at 0 names in
     record {
       some = omega arith;
       few = omega arith;
@@ -97,7 +99,7 @@ flat_row ts names row size some few =
       ports = list_all-whole (has_ports flat) copy_at names (λ i n e. fits ts names row size i n (slice_get_within names i n e));
       inputs = all_at-whole (λ number x. list_all (is_input flat number) x.inputs) copy_at names (λ i n e. takes_before ts names row size i (slice_get_within names i n e));
       ends = all_at-whole (λ number x. is_sink (transform_of flat x) || feeds_one flat number) copy_at names (λ i n e. ends_or_feeds ts names row size i (slice_get_within names i n e));
-      names = one_name (λ x. sink_name (transform_of flat x)) (each_at copy_at 0 names) (λ i x e h. nameless ts names row size i x e (omega arith));
+      names = one_name (λ x. sink_name (transform_of flat x)) (map_at copy_at 0 names) (λ i x e h. nameless ts names row size i x e (omega arith));
     }
 
 ---- a chain as a row
@@ -250,6 +252,6 @@ chain_flat vs h =
     flat_row (table vs) (names_of vs) c.row c.size c.some (omega arith)
 
 -- the copies stand in a line
-pub line_of : (k : ℕ) (names : List (List ℕ)) → map (λ x. x.inputs) (each_at copy_at k names) ≡ each_at (λ i x. one_before i) k (each_at copy_at k names)
+pub line_of : (k : ℕ) (names : List (List ℕ)) → map (λ x. x.inputs) (map_at copy_at k names) ≡ map_at (λ i x. one_before i) k (map_at copy_at k names)
 line_of k [] = refl
 line_of k (n ∷ ns) = ap (λ is. one_before k ∷ is) (line_of (k + 1) ns)

@@ -22,11 +22,12 @@ use Rattle.nemo_job.specs.declared.vertex.JobVertex.{JobVertex}
 use Rattle.nemo_job.specs.declared.vertex.Work.{Work}
 use Rattle.nemo_job.specs.declared.vertex.Work.TheVariants.{Op}
 use Rattle.nemo_job.proofs.Plain.{no_faults, rows_filled}
-use Rattle.nemo_flat.specs.Flat.{copy_at, each_at, flat_of}
+use Rattle.nemo_base.specs.Numbered.{map_at}
+use Rattle.nemo_flat.specs.Flat.{copy_at, flat_of}
 use Rattle.nemo_flat.specs.Meaning.{Reached, by_path, flat_faults, flat_rows, reached, under}
 use Rattle.nemo_job.proofs.ChainMean.{parts}
 use Rattle.nemo_flat.proofs.ChainFlat.{chain_is, end_op, map_op, nameless, row_of, source_op, table, table_more}
-use Rattle.nemo_flat.proofs.Places.{each_at-length, each_at-whole, ended, from_none, got, last_only, same_item}
+use Rattle.nemo_ir.proofs.Places.{map_at-length, map_at-whole, ended, from_none, got, last_only, same_item}
 use Rattle.nemo_job.proofs.ChainMean.{chain_rows, chain_sound}
 use Rattle.nemo_job.specs.Sinks.{arisen_cmp, by_name, job_faults, job_rows}
 use Rattle.nemo_value.specs.Order.{record_cmp}
@@ -39,13 +40,13 @@ pure rows = record { rows = rows; faults = [] }
 
 ---- what each vertex gives
 
-source_gives : (x : ℕ) (rows : List Row) → at x (Source rows) [] ≡ pure (rows_after (Op (Source rows)) [])
+pub source_gives : (x : ℕ) (rows : List Row) → at x (Source rows) [] ≡ pure (rows_after (Op (Source rows)) [])
 source_gives x rows = ap (λ fs. record { rows = rows_in (map Ok rows); faults = map (arisen x) (ascending fault_cmp fs) }) (no_fault-rows rows)
 
-map_gives : (x : ℕ) (out : List Expr) (rows : List Row) → list_all is_plain out ≡ true → list_all is_filled rows ≡ true → at x (Map out) (pure rows ∷ []) ≡ pure (rows_after (Op (Map out)) rows)
+pub map_gives : (x : ℕ) (out : List Expr) (rows : List Row) → list_all is_plain out ≡ true → list_all is_filled rows ≡ true → at x (Map out) (pure rows ∷ []) ≡ pure (rows_after (Op (Map out)) rows)
 map_gives x out rows plain f = ap (λ fs. record { rows = rows_in (map_answers out rows); faults = map (arisen x) (ascending fault_cmp fs) }) (no_faults out rows plain f)
 
-end_gives : (x : ℕ) (own : List ℕ) (rows : List Row) → at x (Sink own) (pure rows ∷ []) ≡ pure rows
+pub end_gives : (x : ℕ) (own : List ℕ) (rows : List Row) → at x (Sink own) (pure rows ∷ []) ≡ pure rows
 end_gives x own rows = λ i. record { rows = rows_in-rows rows i; faults = map (arisen x) (ascending fault_cmp (no_fault-rows rows i)) }
 
 -- one vertex more, on what the vertex before it gives
@@ -69,14 +70,14 @@ links_more name v [] k = refl
 links_more name v (m ∷ ms) k = refl
 
 -- a map of the chain, and what comes after it
-record IsLink (name : List ℕ) (m : JobVertex) (rest : List JobVertex) : Type 0 where
-  out : List Expr
-  op : m.work ≡ Op (Map out)
-  plain : list_all is_plain out ≡ true
-  some : nat_le 1 (length out) ≡ true
-  linked : links m.name rest ≡ true
+pub record IsLink (name : List ℕ) (m : JobVertex) (rest : List JobVertex) : Type 0 where
+  pub out : List Expr
+  pub op : m.work ≡ Op (Map out)
+  pub plain : list_all is_plain out ≡ true
+  pub some : nat_le 1 (length out) ≡ true
+  pub linked : links m.name rest ≡ true
 
-link_of : (name : List ℕ) (m : JobVertex) (ms : List JobVertex) (k : JobVertex) → links name (m ∷ (ms ++ k ∷ [])) ≡ true → IsLink name m (ms ++ k ∷ [])
+pub link_of : (name : List ℕ) (m : JobVertex) (ms : List JobVertex) (k : JobVertex) → links name (m ∷ (ms ++ k ∷ [])) ≡ true → IsLink name m (ms ++ k ∷ [])
 link_of name m ms k h =
     let opened : (is_map m.work && follows name m.inputs && links m.name (ms ++ k ∷ [])) ≡ true = sym (links_more name m ms k) ∙ h in
     let first : (is_map m.work && follows name m.inputs) ≡ true = first_so (is_map m.work && follows name m.inputs) (links m.name (ms ++ k ∷ [])) opened in
@@ -102,7 +103,7 @@ end_own name own w h e = same_bytes own name (sym (sym (ap (is_end name) e) ∙ 
 
 chain_along : (flat : FlatForm) (ms : List JobVertex) (k : JobVertex) (name : List ℕ) (done : List ByNumber) (j : ℕ) (rows : List Row)
     → links name (ms ++ k ∷ []) ≡ true → StandFrom flat.transforms (suc j) (table (ms ++ k ∷ [])) → length done ≡ suc j → port done j ≡ pure rows → list_all is_filled rows ≡ true
-    → port (along (value_step flat) done (each_at copy_at (suc j) (names_of (ms ++ k ∷ [])))) (suc j + length ms) ≡ pure (rows_through ms rows)
+    → port (along (value_step flat) done (map_at copy_at (suc j) (names_of (ms ++ k ∷ [])))) (suc j + length ms) ≡ pure (rows_through ms rows)
 chain_along flat [] k name done j rows linked stand size here filled =
     let op = end_op k.name k.work (first_so (is_end k.name k.work) (follows name k.inputs) linked) in
     let stands : StandFrom flat.transforms (suc j) (Sink op.0 ∷ []) = subst (StandFrom flat.transforms (suc j)) (table_more k [] (Sink op.0) op.1) stand in
@@ -120,13 +121,13 @@ chain_along flat (m ∷ ms) k name done j rows linked stand size here filled =
     let longer : length (done ++ f ∷ []) ≡ suc (suc j) = let e : length (done ++ f ∷ []) ≡ length done + 1 = length-append done (f ∷ []) in omega arith in
     let up : suc j + 1 ≡ suc (suc j) = omega arith in
     let ends : suc j + suc (length ms) ≡ suc (suc j) + length ms = omega arith in
-    ap (λ n. port (along (value_step flat) (done ++ f ∷ []) (each_at copy_at n (names_of rest))) (suc j + suc (length ms))) up
-    ∙ ap (port (along (value_step flat) (done ++ f ∷ []) (each_at copy_at (suc (suc j)) (names_of rest)))) ends
+    ap (λ n. port (along (value_step flat) (done ++ f ∷ []) (map_at copy_at n (names_of rest))) (suc j + suc (length ms))) up
+    ∙ ap (port (along (value_step flat) (done ++ f ∷ []) (map_at copy_at (suc (suc j)) (names_of rest)))) ends
     ∙ chain_along flat ms k m.name (done ++ f ∷ []) (suc j) given l.linked (others_stand flat.transforms (suc j) (Map l.out) (table rest) stands) longer
     (last_port done f (suc j) size ∙ gives) (rows_filled l.out rows l.some)
     ∙ ap (λ w. pure (rows_through ms (rows_after w rows))) (sym l.op)
 
-table_last : (ms : List JobVertex) (k : JobVertex) (name : List ℕ) → links name (ms ++ k ∷ []) ≡ true → slice_get (table (ms ++ k ∷ [])) (length ms) ≡ Some (Sink k.name)
+pub table_last : (ms : List JobVertex) (k : JobVertex) (name : List ℕ) → links name (ms ++ k ∷ []) ≡ true → slice_get (table (ms ++ k ∷ [])) (length ms) ≡ Some (Sink k.name)
 table_last [] k name h =
     let is : is_end k.name k.work ≡ true = first_so (is_end k.name k.work) (follows name k.inputs) h in
     let op = end_op k.name k.work is in
@@ -137,13 +138,13 @@ table_last (m ∷ ms) k name h =
 
 ---- the whole chain
 
-source_filled : (w : Work) (rows : List Row) → w ≡ Op (Source rows) → has_rows w ≡ true → list_all is_filled (rows_after (Op (Source rows)) []) ≡ true
+pub source_filled : (w : Work) (rows : List Row) → w ≡ Op (Source rows) → has_rows w ≡ true → list_all is_filled (rows_after (Op (Source rows)) []) ≡ true
 source_filled w rows e h = ap (list_all is_filled) (rows_in-rows rows) ∙ sym (ap has_rows e) ∙ h
 
 abbrev pub final : JobVertex → List JobVertex → List Row
 final s ms = rows_through ms (rows_after s.work [])
 
-end_value : (s : JobVertex) (ms : List JobVertex) (k : JobVertex) → is_built (s ∷ (ms ++ k ∷ [])) ≡ true
+pub end_value : (s : JobVertex) (ms : List JobVertex) (k : JobVertex) → is_built (s ∷ (ms ++ k ∷ [])) ≡ true
     → value (row_of (table (s ∷ (ms ++ k ∷ []))) (names_of (s ∷ (ms ++ k ∷ [])))) (suc (length ms)) ≡ pure (final s ms)
 end_value s ms k h =
     let rest = ms ++ k ∷ [] in
@@ -158,7 +159,7 @@ end_value s ms k h =
     let stands : StandFrom (table vs) 1 (table rest) = subst (λ us. StandFrom us 1 (table rest)) (sym is) (others_stand (Source op.0 ∷ table rest) 0 (Source op.0) (table rest) (λ i u e. ap (slice_get (Source op.0 ∷ table rest)) (from_none i) ∙ e)) in
     let ends : suc (length ms) ≡ suc 0 + length ms = omega arith in
     let filled : has_rows s.work ≡ true = first_so (has_fields s) (list_all has_fields rest) (second_so (is_chain vs) (list_all has_fields vs) h) in
-    ap (port (along (value_step flat) (f ∷ []) (each_at copy_at 1 (names_of rest)))) ends
+    ap (port (along (value_step flat) (f ∷ []) (map_at copy_at 1 (names_of rest)))) ends
     ∙ chain_along flat ms k s.name (f ∷ []) 0 given p.linked stands refl gives (source_filled s.work op.0 op.1 filled)
     ∙ ap (λ w. pure (rows_through ms (rows_after w []))) (sym op.1)
 
@@ -173,18 +174,18 @@ one_reached s ms k h =
     let op = source_op s.work p.source in
     let flat = row_of (table vs) (names_of vs) in
     let r : Reached = record { name = k.name; brought = pure (final s ms) } in
-    let count : length (each_at copy_at 0 (names_of vs)) ≡ length (names_of vs) = each_at-length copy_at 0 (names_of vs) in
+    let count : length (map_at copy_at 0 (names_of vs)) ≡ length (names_of vs) = map_at-length copy_at 0 (names_of vs) in
     let named : length (names_of vs) ≡ length vs = length-map vs (λ v. v.name) in
     let long : length vs ≡ suc (length ms + 1) = ap suc (length-append ms (k ∷ [])) in
     let some : 1 ≤ length (names_of vs) = c.some in
     let sink : slice_get (table vs) (suc (length ms)) ≡ Some (Sink k.name) = ap (λ us. slice_get us (suc (length ms))) (table_more s rest (Source op.0) op.1) ∙ table_last ms k s.name p.linked in
     let make : ℕ → FlatVertex → Option Reached = λ i x. under (value flat i) (sink_name (transform_of flat x)) in
     ap reached c.flat
-    ∙ last_only make 0 (each_at copy_at 0 (names_of vs)) r
+    ∙ last_only make 0 (map_at copy_at 0 (names_of vs)) r
     (λ i x e l. ap (λ n. make n x) (from_none i) ∙ ap (under (value flat i)) (nameless (table vs) (names_of vs) c.row c.size i x e (omega arith)))
     (λ i x e l.
     let n = got (names_of vs) i (omega arith) in
-    let is : copy_at i n.0 ≡ x = same_item (copy_at i n.0) x (sym (each_at-whole copy_at (names_of vs) i n.0 n.1) ∙ e) in
+    let is : copy_at i n.0 ≡ x = same_item (copy_at i n.0) x (sym (map_at-whole copy_at (names_of vs) i n.0 n.1) ∙ e) in
     let here : i ≡ suc (length ms) = omega arith in
     ap (λ m. make m x) (from_none i) ∙ ap (λ y. under (value flat i) (sink_name (slice_get (table vs) y.transform))) (sym is)
     ∙ ap (λ m. under (value flat m) (sink_name (slice_get (table vs) m))) here
@@ -194,7 +195,7 @@ one_reached s ms k h =
 
 ---- the law
 
-split : (vs : List JobVertex) → is_built vs ≡ true → (P : List JobVertex → Type 0) → ((s : JobVertex) (ms : List JobVertex) (k : JobVertex) → is_built (s ∷ (ms ++ k ∷ [])) ≡ true → P (s ∷ (ms ++ k ∷ []))) → P vs
+pub split : (vs : List JobVertex) → is_built vs ≡ true → (P : List JobVertex → Type 0) → ((s : JobVertex) (ms : List JobVertex) (k : JobVertex) → is_built (s ∷ (ms ++ k ∷ [])) ≡ true → P (s ∷ (ms ++ k ∷ []))) → P vs
 split [] h P f = cc
 split (s ∷ []) h P f = let none = (parts s [] h).linked in cc
 split (s ∷ v ∷ vs) h P f =

@@ -1,17 +1,17 @@
 -- The edges of a line: one from each vertex to the next.
 use Rattle.std.proofs.Common.{arith, ◌≡◌, ◌≢◌, ◌∙◌, ap, sym, subst, refl, ℕ, zero, suc, ◌+◌, ◌<◌, ◌≤◌, ◌==◌, ◌&&◌, List, [], ◌∷◌, ◌++◌, length, map, filter, cond, slice_get, Bool, true, false, Some, eq-eqb}
 use Rattle.std.proofs.lemmas.Bool.{ne_eqb}
-use Rattle.std.proofs.lemmas.Option.{slice_get-map}
 use Rattle.std.specs.List.{flat_map}
-use Rattle.std.specs.Prelude.{option_map}
 use Rattle.nemo_ir.specs.Flat.{FlatForm, transform_of}
 use Rattle.nemo_ir.specs.Nodes.{edge_at}
 use Rattle.nemo_ir.specs.Valid.{ports_named}
 use Rattle.nemo_ir.specs.declared.dag.IrEdge.{IrEdge}
 use Rattle.nemo_ir.specs.declared.flat.FlatVertex.{FlatVertex}
 use Rattle.nemo_flat.specs.FirstDag.{pattern_into, edge_into, edges_into, ports_of}
-use Rattle.nemo_flat.specs.Flat.{IsLine, each_at, one_before}
-use Rattle.nemo_flat.proofs.Places.{each_at-whole, from_none, same_item}
+use Rattle.nemo_base.specs.Numbered.{map_at}
+use Rattle.nemo_ir.specs.Line.{IsLine, one_before}
+use Rattle.nemo_ir.proofs.Places.{from_none, same_item}
+use Rattle.nemo_ir.proofs.Lines.{line_inputs}
 
 -- from k on, one edge from each vertex into port 0 of the next
 abbrev pub IsPath : ℕ → List IrEdge → Type 0
@@ -84,7 +84,7 @@ one_named k (e ∷ es) (suc i) h l =
 ---- the first edges of a line
 
 abbrev pub edges_from : FlatForm → ℕ → List FlatVertex → List IrEdge
-edges_from flat k xs = flat_map (λ es. es) (each_at (edges_into flat) k xs)
+edges_from flat k xs = flat_map (λ es. es) (map_at (edges_into flat) k xs)
 
 -- the edge at a place has the pattern of the one port of the vertex there
 pub record PortPattern (flat : FlatForm) (xs : List FlatVertex) (i : ℕ) (e : IrEdge) : Type 0 where
@@ -112,14 +112,8 @@ first_path flat k (x ∷ xs) h =
     let inputs : x.inputs ≡ k ∷ [] = h 0 x refl ∙ ap (λ n. n ∷ []) here in
     let rest = first_path flat (suc k) xs (λ i y g. let n : k + suc i ≡ suc k + i = omega arith in h (suc i) y g ∙ ap (λ m. m ∷ []) n) in
     let is : edges_from flat (suc k) (x ∷ xs) ≡ e ∷ edges_from flat (suc (suc k)) xs =
-    ap (λ ins. each_at (edge_into (ports_of (transform_of flat x)) (suc k)) 0 ins ++ edges_from flat (suc k + 1) xs) inputs ∙ ap (λ n. e ∷ edges_from flat n xs) up in
+    ap (λ ins. map_at (edge_into (ports_of (transform_of flat x)) (suc k)) 0 ins ++ edges_from flat (suc k + 1) xs) inputs ∙ ap (λ n. e ∷ edges_from flat n xs) up in
     subst (λ es. FirstEdges flat (x ∷ xs) es k) (sym is) (record { path = (refl, refl, refl, rest.path); size = ap suc rest.size; patterns = port_patterns flat x xs e (edges_from flat (suc (suc k)) xs) refl rest.patterns })
-
-pub line_inputs : (flat : FlatForm) → IsLine flat → (i : ℕ) (x : FlatVertex) → slice_get flat.vertices i ≡ Some x → x.inputs ≡ one_before i
-line_inputs flat line i x e =
-    same_item x.inputs (one_before i)
-    (sym (slice_get-map (λ y. y.inputs) flat.vertices i ∙ ap (option_map (λ y. y.inputs)) e)
-    ∙ ap (λ ls. slice_get ls i) line ∙ each_at-whole (λ j y. one_before j) flat.vertices i x e)
 
 -- the edges of a line
 pub record LineEdges (flat : FlatForm) (xs : List FlatVertex) (es : List IrEdge) : Type 0 where
@@ -134,7 +128,7 @@ line_start flat line some = go flat.vertices (line_inputs flat line) some
     go [] h s = absurd (omega arith)
     go (x ∷ xs) h s =
         let rest = first_path flat 0 xs (λ i y g. h (suc i) y g ∙ ap (λ m. m ∷ []) (sym (from_none i))) in
-        let is : edges_from flat 0 (x ∷ xs) ≡ edges_from flat 1 xs = ap (λ ins. each_at (edge_into (ports_of (transform_of flat x)) 0) 0 ins ++ edges_from flat 1 xs) (h 0 x refl) in
+        let is : edges_from flat 0 (x ∷ xs) ≡ edges_from flat 1 xs = ap (λ ins. map_at (edge_into (ports_of (transform_of flat x)) 0) 0 ins ++ edges_from flat 1 xs) (h 0 x refl) in
         subst (LineEdges flat (x ∷ xs)) (sym is)
         (record {
           path = rest.path;

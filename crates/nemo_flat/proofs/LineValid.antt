@@ -7,9 +7,9 @@ use Rattle.std.specs.List.{list_any}
 use Rattle.nemo_base.specs.declared.annotation.Pattern.{Pattern}
 use Rattle.nemo_transform.specs.Ports.{PortKind, Main, Keyed, Side, kinds_of}
 use Rattle.nemo_transform.specs.declared.transform.Transform.{Transform}
-use Rattle.nemo_ir.specs.Along.{below, counted, passes}
+use Rattle.nemo_ir.specs.Along.{below, passes}
 use Rattle.nemo_ir.specs.Flat.{FlatForm, IsFlat, transform_of}
-use Rattle.nemo_ir.specs.Nodes.{Does, deed_of, deed_or, edge_at, feed_of, feeds_from, is_utility, kinds_in, node_of, nodes, nodes_from, rep_of, resolve}
+use Rattle.nemo_ir.specs.Nodes.{Does, deed_of, deed_or, edge_at, feed_of, feeds_from, is_utility, kinds_in, node_of, nodes, rep_of, resolve}
 use Rattle.nemo_ir.specs.Valid.{HasRep, StandsFor, Valid, is_counted, is_fed, is_hash, is_level, is_one_to_one, is_rep, is_taken, is_trigger, is_used, is_within, kinds_at, names_each, ports_named, rises, takes}
 use Rattle.nemo_ir.specs.declared.dag.IrDag.{IrDag}
 use Rattle.nemo_ir.specs.declared.dag.IrEdge.{IrEdge}
@@ -17,10 +17,11 @@ use Rattle.nemo_ir.specs.declared.dag.IrVertex.{IrVertex}
 use Rattle.nemo_ir.specs.declared.dag.VertexKind.TheVariants.{Op}
 use Rattle.nemo_ir.specs.declared.flat.FlatVertex.{FlatVertex}
 use Rattle.nemo_flat.specs.FirstDag.{first_dag, op_of, pattern_into, ports_of}
-use Rattle.nemo_flat.specs.Flat.{IsLine, one_before}
-use Rattle.nemo_flat.proofs.FlatPlaces.{has_transform}
-use Rattle.nemo_flat.proofs.Places.{from_none, got, list_any-at, or_true, same_item}
-use Rattle.nemo_flat.proofs.LinePath.{IsPath, edges_from, line_inputs, line_start, none_named, one_named, path_edge, path_get}
+use Rattle.nemo_ir.specs.Line.{IsLine, one_before}
+use Rattle.nemo_ir.proofs.FlatPlaces.{has_transform}
+use Rattle.nemo_ir.proofs.Places.{below_get, counted_length, from_none, got, list_any-at, or_true, same_item}
+use Rattle.nemo_ir.proofs.Lines.{line_inputs, nodes_get, only_kind}
+use Rattle.nemo_flat.proofs.LinePath.{IsPath, edges_from, line_start, none_named, one_named, path_edge, path_get}
 use Rattle.nemo_flat.proofs.Ops.{IsOp, Stand, first_stand, pair_at, resolved_along, stand_length}
 
 ---- what has to be known of a DAG
@@ -39,23 +40,6 @@ pub record IsOps (flat : FlatForm) (dag : IrDag) : Type 0 where
       → slice_get (kinds_at flat w) e.port ≡ Some k → Serves e.pattern u.parallelism w.parallelism k
 
 ---- numbers
-
-counted_get : (k n i : ℕ) → i < n → slice_get (counted k n) i ≡ Some (k + i)
-counted_get k zero i h = absurd (omega arith)
-counted_get k (suc n) zero h = let e : k ≡ k + 0 = omega arith in ap Some e
-counted_get k (suc n) (suc i) h = let e : suc k + i ≡ k + suc i = omega arith in counted_get (suc k) n i (omega arith) ∙ ap Some e
-
-counted_length : (k n : ℕ) → length (counted k n) ≡ n
-counted_length k zero = refl
-counted_length k (suc n) = ap suc (counted_length (suc k) n)
-
-below_get : (n i : ℕ) → i < n → slice_get (below n) i ≡ Some i
-below_get n i h = counted_get 0 n i h ∙ ap Some (from_none i)
-
-nodes_get : (ts : List Transform) (es : List IrEdge) (k : ℕ) (us : List IrVertex) (i : ℕ) (u : IrVertex) → slice_get us i ≡ Some u → slice_get (nodes_from ts es k us) i ≡ Some (node_of ts es (k + i) u)
-nodes_get ts es k [] i u g = cc
-nodes_get ts es k (w ∷ us) zero u g = let e : k ≡ k + 0 = omega arith in ap (λ x. Some (node_of ts es k x)) (same_item w u g) ∙ ap (λ n. Some (node_of ts es n u)) e
-nodes_get ts es k (w ∷ us) (suc i) u g = let e : (k + 1) + i ≡ k + suc i = omega arith in nodes_get ts es (k + 1) us i u g ∙ ap (λ n. Some (node_of ts es n u)) e
 
 ---- a vertex with its flat vertex, its transform and its one port
 
@@ -186,11 +170,6 @@ pub record KnownEdge (flat : FlatForm) (dag : IrDag) (i : ℕ) : Type 0 where
   pub kind : PortKind
   pub kind_at : slice_get (kinds_at flat target) edge.port ≡ Some kind
   pub serves : Serves edge.pattern source.parallelism target.parallelism kind
-
-only_kind : (ks : List PortKind) → length ks ≡ 1 → (k : PortKind) × (ks ≡ k ∷ [])
-only_kind [] h = absurd (omega arith)
-only_kind (k ∷ []) h = (k, refl)
-only_kind (k ∷ l ∷ ks) h = absurd (omega arith)
 
 known_edge : (flat : FlatForm) (dag : IrDag) → IsFlat flat → IsLine flat → IsOps flat dag → (i : ℕ) → i < length dag.edges → KnownEdge flat dag i
 known_edge flat dag f line p i h =

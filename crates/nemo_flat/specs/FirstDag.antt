@@ -15,7 +15,7 @@ use Rattle.nemo_ir.specs.declared.dag.IrEdge.{IrEdge}
 use Rattle.nemo_ir.specs.declared.dag.IrVertex.{IrVertex}
 use Rattle.nemo_ir.specs.declared.dag.VertexKind.TheVariants.{Op}
 use Rattle.nemo_ir.specs.declared.flat.FlatVertex.{FlatVertex}
-use Rattle.nemo_flat.specs.Flat.{each_at}
+use Rattle.nemo_base.specs.Numbered.{map_at}
 
 -- a vertex of one task with the transform of a flat vertex
 abbrev pub op_of : FlatVertex → IrVertex
@@ -46,12 +46,12 @@ edge_into kinds to port input = record {
 
 -- the edges into a flat vertex, port by port
 abbrev pub edges_into : FlatForm → ℕ → FlatVertex → List IrEdge
-edges_into flat to x = each_at (edge_into (ports_of (transform_of flat x)) to) 0 x.inputs
+edges_into flat to x = map_at (edge_into (ports_of (transform_of flat x)) to) 0 x.inputs
 
 -- the edges stand in the order of vertices and ports, and each flat vertex is stood for by the Op of its number
 abbrev pub first_dag : FlatForm → IrDag
 first_dag flat = record {
   vertices = map op_of flat.vertices;
-  edges = flat_map (λ es. es) (each_at (edges_into flat) 0 flat.vertices);
+  edges = flat_map (λ es. es) (map_at (edges_into flat) 0 flat.vertices);
   rep = below (length flat.vertices);
 }

@@ -10,7 +10,7 @@ use Rattle.nemo_ir.specs.Flat.{FlatForm, sink_name, transform_of}
 use Rattle.nemo_ir.specs.Value.{ByNumber, value}
 use Rattle.nemo_ir.specs.declared.flat.FlatVertex.{FlatVertex}
 use Rattle.nemo_job.specs.Sinks.{arisen_cmp, by_name}
-use Rattle.nemo_flat.specs.Flat.{each_at}
+use Rattle.nemo_base.specs.Numbered.{map_at}
 
 -- what reaches the sink of a name
 pub record Reached : Type 0 where
@@ -23,7 +23,7 @@ under f None = None
 
 -- what reaches the sinks, in the order of the vertices
 abbrev pub reached : FlatForm → List Reached
-reached flat = filter_map (λ r. r) (each_at (λ i x. under (value flat i) (sink_name (transform_of flat x))) 0 flat.vertices)
+reached flat = filter_map (λ r. r) (map_at (λ i x. under (value flat i) (sink_name (transform_of flat x))) 0 flat.vertices)
 
 -- each sink with its rows in order, the sinks by name
 abbrev pub flat_rows : FlatForm → List SinkRows

@@ -1,8 +1,12 @@
-ghost use Rattle.std.specs.Prelude.{◌≡◌, ◌≤◌, length, true, IfOk, IfErr};
+ghost use Rattle.std.specs.Prelude.{◌≡◌, ◌≤◌, length, true, [], IfOk, IfErr};
 ghost use Rattle.std.specs.List.{filter_map};
-ghost use Rattle.nemo_flat.specs.Flat.{IsLine, copy_at, each_at, flat_of, one_before, operation};
+ghost use Rattle.nemo_base.specs.Numbered.{map_at};
+ghost use Rattle.nemo_ir.specs.Line.{IsLine, one_before};
+ghost use Rattle.nemo_flat.specs.Flat.{IsChainForm, copy_at, flat_of, operation};
+ghost use Rattle.nemo_flat.specs.Meaning.{flat_rows};
 ghost use Rattle.nemo_flat.specs.declared.copies.FlattenRefused.{FlattenRefused};
 ghost use Rattle.nemo_job.specs.Chain.{is_built, names_of};
+ghost use Rattle.nemo_job.specs.Sinks.{job_faults, job_rows};
 
 use nemo_ir::{FlatJob, FlatVertex};
 use nemo_job::{Job, JobVertex, Work};
@@ -18,6 +22,7 @@ pub enum FlattenRefused {
 }
 
 impl From<NoMemory> for FlattenRefused {
+    ghost use Rattle.nemo_flat.specs.Meaning.{flat_rows};
     ghost use Rattle.nemo_flat.specs.declared.copies.FlattenRefused.TheVariants.{NoMemory};
     ghost use Rattle.std.specs.Prelude.{◌≡◌};
 
@@ -28,11 +33,14 @@ impl From<NoMemory> for FlattenRefused {
     }
 }
 
-/// The flat job of a job. A job is a chain of at most 512 vertices for now, so its flat job is a line, and it never has
-/// too many copies.
+/// The flat job of a job, whose sinks get what the job gives them. A job is a chain of at most 512 vertices for now, so
+/// its flat job is a line, and it never has too many copies; no fault reaches its sink.
 pub fn flatten(alloc: Global, job: &Job) -> Result<FlatJob, FlattenRefused>
     ensures flat { IfOk result (λ flat. flat ≡ flat_of job.now) }
     ensures line { IfOk result IsLine }
+    ensures chain { IfOk result IsChainForm }
+    ensures rows { IfOk result (λ flat. flat_rows flat ≡ job_rows job.now) }
+    ensures faultless { IfOk result (λ flat. job_faults job.now ≡ []) }
     ensures end { IfErr result (λ e. e ≡ FlattenRefused.NoMemory) }
 {
     Ok(flatten_chain(alloc, job.vertices().as_slice())?)
@@ -42,6 +50,9 @@ fn flatten_chain(alloc: Global, vertices: &[JobVertex]) -> Result<FlatJob, NoMem
     requires { is_built vertices.now ≡ true }
     ensures flat { IfOk result (λ flat. flat ≡ flat_of vertices.now) }
     ensures line { IfOk result IsLine }
+    ensures chain { IfOk result IsChainForm }
+    ensures rows { IfOk result (λ flat. flat_rows flat ≡ job_rows vertices.now) }
+    ensures faultless { IfOk result (λ flat. job_faults vertices.now ≡ []) }
 {
     let transforms = table(alloc, vertices)?;
     let vertices = all_copies(alloc, vertices)?;
@@ -67,7 +78,7 @@ fn table(alloc: Global, vertices: &[JobVertex]) -> Result<List<Transform>, NoMem
 /// A copy of each vertex, on what the one before it gives.
 fn all_copies(alloc: Global, vertices: &[JobVertex]) -> Result<List<FlatVertex>, NoMemory>
     requires { length vertices.now ≤ 512 }
-    ensures { IfOk result (λ all. all ≡ each_at copy_at 0 (names_of vertices.now)) }
+    ensures { IfOk result (λ all. all ≡ map_at copy_at 0 (names_of vertices.now)) }
 {
     let mut all = List::with_capacity(alloc, vertices.len())?;
     for (place, v) in vertices.iter().enumerate() {

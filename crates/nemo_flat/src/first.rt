@@ -2,7 +2,8 @@ ghost use Rattle.std.specs.Prelude.{◌≡◌, ◌≤◌, length, map, slice_get
 ghost use Rattle.std.specs.List.{flat_map};
 ghost use Rattle.std.specs.Option.{option_copied};
 ghost use Rattle.nemo_flat.specs.FirstDag as spec;
-ghost use Rattle.nemo_flat.specs.Flat.{IsLine, each_at};
+ghost use Rattle.nemo_base.specs.Numbered.{map_at};
+ghost use Rattle.nemo_ir.specs.Line.{IsLine};
 ghost use Rattle.nemo_ir.specs.Along.{below};
 ghost use Rattle.nemo_ir.specs.Valid.{Valid};
 ghost use Rattle.nemo_transform.specs.Ports.{kinds_of};
@@ -54,7 +55,7 @@ fn numbers(alloc: Global, count: u32) -> Result<List<u32>, NoMemory>
 
 /// The edges into all vertices.
 fn edges(alloc: Global, flat: &FlatJob) -> Result<List<IrEdge>, NoMemory>
-    ensures { IfOk result (λ all. all ≡ flat_map (λ es. es) (each_at (spec.edges_into flat.now) 0 flat.now.vertices)) }
+    ensures { IfOk result (λ all. all ≡ flat_map (λ es. es) (map_at (spec.edges_into flat.now) 0 flat.now.vertices)) }
 {
     let vertices = flat.vertices.as_slice();
     let mut all = Vec::with_capacity(alloc, vertices.len())?;

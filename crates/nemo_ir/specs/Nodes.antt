@@ -1,5 +1,5 @@
 -- The vertices of a DAG with the in-edges of their ports.
-use Rattle.std.specs.Prelude.{ℕ, ◌+◌, ◌==◌, ◌&&◌, Bool, true, false, List, [], ◌∷◌, length, map, position, slice_get, slice_index_or, unwrap_or, Option, Some, None, if◌then◌else◌}
+use Rattle.std.specs.Prelude.{ℕ, ◌+◌, ◌==◌, ◌&&◌, Bool, true, false, List, [], ◌∷◌, length, position, slice_get, slice_index_or, unwrap_or, Option, Some, None, if◌then◌else◌}
 use Rattle.nemo_base.specs.declared.annotation.Pattern.{Pattern}
 use Rattle.nemo_base.specs.declared.annotation.Pattern.TheVariants.{OneToOne}
 use Rattle.nemo_transform.specs.Ports.{PortKind, Main, kinds_of}

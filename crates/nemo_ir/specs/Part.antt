@@ -1,5 +1,5 @@
 -- What each task of a DAG's vertex gives.
-use Rattle.std.specs.Prelude.{ℕ, zero, suc, ◌+◌, ◌%◌, ◌==◌, List, [], ◌∷◌, length, map, filter, slice_index_or, nat_le, if◌then◌else◌}
+use Rattle.std.specs.Prelude.{ℕ, suc, ◌+◌, ◌%◌, ◌==◌, List, [], ◌∷◌, length, map, filter, slice_index_or, nat_le, if◌then◌else◌}
 use Rattle.std.specs.List.{flat_map}
 use Rattle.nemo_base.specs.declared.annotation.Pattern.{Pattern}
 use Rattle.nemo_base.specs.declared.annotation.Pattern.TheVariants.{OneToOne, Broadcast, Hash, Spread}
@@ -10,7 +10,7 @@ use Rattle.nemo_transform.specs.declared.transform.Transform.{Transform}
 use Rattle.nemo_transform.specs.declared.transform.Transform.TheVariants.{Source}
 use Rattle.nemo_ir.specs.Along.{along, below}
 use Rattle.nemo_ir.specs.Flat.{FlatForm}
-use Rattle.nemo_ir.specs.Nodes.{Deed, Passes, Nothing, Does, Feed, Node, nodes, origin}
+use Rattle.nemo_ir.specs.Nodes.{Deed, Passes, Nothing, Does, Node, nodes, origin}
 use Rattle.nemo_ir.specs.Value.{ByNumber}
 use Rattle.nemo_ir.specs.declared.dag.IrDag.{IrDag}
 

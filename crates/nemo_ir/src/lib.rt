@@ -3,6 +3,8 @@
 
 mod dag;
 mod flat;
+mod part;
 
 pub use dag::{IrDag, IrEdge, IrVertex, VertexKind};
 pub use flat::{FlatJob, FlatVertex};
+pub use part::source_part;

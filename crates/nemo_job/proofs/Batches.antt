@@ -26,7 +26,7 @@ through_apart (v ∷ vs) xs ys h =
     ap (rows_through vs) (map_apart v.work xs ys (first_so (is_map v.work) (list_all does_map vs) h))
     ∙ through_apart vs (rows_after v.work xs) (rows_after v.work ys) (second_so (is_map v.work) (list_all does_map vs) h)
 
-through_none : (maps : List JobVertex) → list_all does_map maps ≡ true → rows_through maps [] ≡ []
+pub through_none : (maps : List JobVertex) → list_all does_map maps ≡ true → rows_through maps [] ≡ []
 through_none [] h = refl
 through_none (v ∷ vs) h = ap (rows_through vs) (map_none v.work (first_so (is_map v.work) (list_all does_map vs) h)) ∙ through_none vs (second_so (is_map v.work) (list_all does_map vs) h)
   where

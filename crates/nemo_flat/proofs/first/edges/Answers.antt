@@ -1,6 +1,6 @@
 use Rattle.std.proofs.Common.{◌≡◌, ◌∙◌, ◌<◌, ap, subst, length, get_or}
 use Rattle.nemo_ir.specs.Flat.{IsFlat}
-use Rattle.nemo_flat.proofs.FlatPlaces.{few_inputs}
+use Rattle.nemo_ir.proofs.FlatPlaces.{few_inputs}
 use Rattle.nemo_flat.proofs.first.edges.Goals as goal
 
 pub edges_into-requires : goal.edges_into-requires

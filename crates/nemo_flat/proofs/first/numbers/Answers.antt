@@ -1,6 +1,6 @@
 use Rattle.std.proofs.Common.{◌∙◌, ap, ◌++◌, ◌+◌, ◌-◌}
 use Rattle.nemo_ir.specs.Along.{counted}
-use Rattle.nemo_flat.proofs.FlatPlaces.{number_more}
+use Rattle.nemo_ir.proofs.FlatPlaces.{number_more}
 use Rattle.nemo_flat.proofs.first.numbers.Goals as goal
 
 pub loop-i-preserved : goal.loop-i-preserved

@@ -1,9 +1,8 @@
 -- What a flat job keeps, vertex by vertex.
-use Rattle.std.proofs.Common.{arith, ◌≡◌, ◌∙◌, ap, sym, subst, refl, ℕ, zero, suc, ◌+◌, ◌-◌, ◌<◌, ◌≤◌, ◌==◌, List, [], ◌∷◌, ◌++◌, append_assoc, length, slice_get, get_or, Bool, true, nat_le, replicate, Option, Some, None}
+use Rattle.std.proofs.Common.{arith, ◌≡◌, ◌∙◌, ap, sym, subst, refl, ℕ, zero, suc, ◌+◌, ◌-◌, ◌<◌, ◌≤◌, ◌==◌, List, [], ◌∷◌, ◌++◌, append_assoc, length, slice_get, get_or, true, nat_le, replicate, Option, Some, None}
 use Rattle.std.proofs.lemmas.Bool.{eqb-true, leb-true}
 use Rattle.std.proofs.lemmas.Option.{slice_get_read}
-use Rattle.std.specs.Cmp.{first_so, second_so}
-use Rattle.std.specs.List.{list_all}
+use Rattle.std.specs.Cmp.{second_so}
 use Rattle.nemo_transform.specs.Ports.{Main, kinds_of}
 use Rattle.nemo_transform.specs.Soundness.{is_sound}
 use Rattle.nemo_transform.specs.declared.transform.Transform.{Transform}
@@ -11,11 +10,7 @@ use Rattle.nemo_transform.specs.declared.transform.Transform.TheVariants.{Source
 use Rattle.nemo_ir.specs.Along.{counted, passes}
 use Rattle.nemo_ir.specs.Flat.{FlatForm, IsFlat, has_ports, transform_of}
 use Rattle.nemo_ir.specs.declared.flat.FlatVertex.{FlatVertex}
-
-pub list_all-at : {X : Type 0} (p : X → Bool) (xs : List X) (i : ℕ) (x : X) → slice_get xs i ≡ Some x → list_all p xs ≡ true → p x ≡ true
-list_all-at p [] i x e h = cc
-list_all-at p (y ∷ ys) zero x e h = let same : y ≡ x = cc in ap p (sym same) ∙ first_so (p y) (list_all p ys) h
-list_all-at p (y ∷ ys) (suc i) x e h = list_all-at p ys i x e (second_so (p y) (list_all p ys) h)
+use Rattle.nemo_ir.proofs.Places.{list_all-at}
 
 -- the transform of a flat vertex
 pub record HasTransform (flat : FlatForm) (x : FlatVertex) : Type 0 where

@@ -1,0 +1,3 @@
+pub mod FlatPlaces
+pub mod Lines
+pub mod Places
