@@ -1,7 +1,8 @@
-ghost use Rattle.std.specs.Prelude.{◌≡◌, ◌≤◌, is_none, IfOk};
+ghost use Rattle.std.specs.Prelude.{◌≡◌, ◌≤◌, true, is_none, IfOk, IfSome};
 ghost use Rattle.std.specs.List.{list_all};
 ghost use Rattle.serde_json.specs.Find.{get};
 ghost use Rattle.serde_json.specs.View.{view};
+ghost use Rattle.nemo_ir.specs.Uniform.{is_uniform};
 ghost use Rattle.nemo_bundle.specs.Answers.{Gives, Reads};
 ghost use Rattle.nemo_bundle.specs.Read.{bundle_of, job_of};
 ghost use Rattle.nemo_bundle.specs.Read as spec;
@@ -30,9 +31,11 @@ pub struct Bundle {
 }
 
 /// The bundle that a JSON value stands for. What has not the form that is served is refused with code 90 and place 0.
+/// A DAG that it proposes is uniform.
 pub fn read_bundle(alloc: Global, value: &Value) -> Result<Bundle, BundleEnd>
     ensures bundle { Gives result (bundle_of (view value.now)) }
     ensures tasks { IfOk result (λ b. (1 ≤ b.parallelism) × (b.parallelism ≤ 64)) }
+    ensures uniform { IfOk result (λ b. IfSome b.dag (λ dag. is_uniform dag ≡ true)) }
 {
     if !is_served(value) {
         return Err(UNSERVED);

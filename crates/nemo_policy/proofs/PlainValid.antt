@@ -9,14 +9,14 @@ use Rattle.nemo_ir.specs.Valid.{Valid, is_one_to_one, takes}
 use Rattle.nemo_ir.specs.declared.dag.IrEdge.{IrEdge}
 use Rattle.nemo_ir.specs.declared.dag.IrVertex.{IrVertex}
 use Rattle.nemo_flat.specs.FirstDag.{op_of}
-use Rattle.nemo_flat.specs.Flat.{IsLine}
-use Rattle.nemo_flat.proofs.Places.{same_item}
+use Rattle.nemo_ir.specs.Line.{IsLine}
+use Rattle.nemo_ir.proofs.Places.{same_item}
 use Rattle.nemo_policy.specs.Passes.{kind_into, pattern_by, plain_dag, set_pattern, set_tasks, tasks_at}
 use Rattle.nemo_flat.proofs.LinePath.{IsPath, edges_from, line_start}
 use Rattle.nemo_flat.proofs.LineValid.{IsOps, Serves, ops_valid}
 use Rattle.nemo_policy.proofs.Vertices.{stand_along}
 
-tasks_get : (us : List IrVertex) (v : ℕ) (u : IrVertex) → slice_get us v ≡ Some u → tasks_at us v ≡ u.parallelism
+pub tasks_get : (us : List IrVertex) (v : ℕ) (u : IrVertex) → slice_get us v ≡ Some u → tasks_at us v ≡ u.parallelism
 tasks_get [] v u g = cc
 tasks_get (w ∷ us) zero u g = ap (λ x. x.parallelism) (same_item w u g)
 tasks_get (w ∷ us) (suc v) u g = tasks_get us v u g

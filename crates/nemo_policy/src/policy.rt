@@ -1,8 +1,10 @@
-ghost use Rattle.std.specs.Prelude.{◌≡◌, ◌≤◌, IfOk};
+ghost use Rattle.std.specs.Prelude.{◌≡◌, ◌≤◌, true, IfOk};
 ghost use Rattle.nemo_base.specs.declared.annotation.Policy.{Policy};
-ghost use Rattle.nemo_flat.specs.Flat.{IsLine};
+ghost use Rattle.nemo_ir.specs.Line.{IsLine};
 ghost use Rattle.nemo_ir.specs.Flat.{IsFlat};
+ghost use Rattle.nemo_ir.specs.Uniform.{is_uniform};
 ghost use Rattle.nemo_ir.specs.Valid.{Valid};
+ghost use Rattle.nemo_policy.specs.Main.{HasMainPorts};
 ghost use Rattle.nemo_policy.specs.Passes as spec;
 
 use crate::parallelism::set_parallelism;
@@ -13,8 +15,8 @@ use nemo_ir::{FlatJob, IrDag};
 use nemo_value::NoMemory;
 use std::alloc::Global;
 
-/// The DAG that a policy makes of a flat job, in which a vertex has at most `p` tasks. It is valid. For now the policy
-/// is Plain, and the flat job is a line.
+/// The DAG that a policy makes of a flat job, in which a vertex has at most `p` tasks. It is valid, and where all ports
+/// of the flat job are Main it is uniform. For now the policy is Plain, and the flat job is a line.
 pub fn apply_policy(
     alloc: Global,
     flat: &FlatJob,
@@ -27,6 +29,7 @@ pub fn apply_policy(
     requires few { p ≤ 64 }
     ensures dag { IfOk result (λ dag. dag ≡ spec.plain_dag flat.now p) }
     ensures valid { IfOk result (Valid flat.now) }
+    ensures uniform { HasMainPorts flat.now → IfOk result (λ dag. is_uniform dag ≡ true) }
 {
     match policy {
         Policy::Plain => plain_dag(alloc, flat, p),
@@ -41,6 +44,7 @@ fn plain_dag(alloc: Global, flat: &FlatJob, p: u32) -> Result<IrDag, NoMemory>
     requires few { p ≤ 64 }
     ensures dag { IfOk result (λ dag. dag ≡ spec.plain_dag flat.now p) }
     ensures valid { IfOk result (Valid flat.now) }
+    ensures uniform { HasMainPorts flat.now → IfOk result (λ dag. is_uniform dag ≡ true) }
 {
     keeps(flat);
     let first = first_dag(alloc, flat)?;

@@ -1,8 +1,10 @@
-use Rattle.std.proofs.Common.{◌≡◌, ◌∙◌, ap, sym, subst, IfOk, Ok, Err, Result}
+use Rattle.std.proofs.Common.{◌≡◌, ◌∙◌, ap, sym, subst, true, IfOk, Ok, Err, Result}
 use Rattle.nemo_value.specs.declared.memory.NoMemory.{NoMemory}
+use Rattle.nemo_ir.specs.Uniform.{is_uniform}
 use Rattle.nemo_ir.specs.Valid.{Valid}
 use Rattle.nemo_ir.specs.declared.dag.IrDag.{IrDag}
 use Rattle.nemo_policy.specs.Passes.{set_parallelism, set_patterns}
+use Rattle.nemo_policy.proofs.PlainUniform.{plain_uniform}
 use Rattle.nemo_policy.proofs.PlainValid.{plain_valid}
 use Rattle.nemo_policy.proofs.policy.plain_dag.Goals as goal
 
@@ -18,3 +20,11 @@ returns-clause-valid c =
     of_value c.set_patterns.result (set_patterns flat c.in_ok-spread.spread) (Valid flat) c.set_patterns.ensures
     (subst (λ dag. Valid flat (set_patterns flat dag)) (sym (c.in_ok-spread.ensures ∙ ap (set_parallelism flat p) c.in_ok-first.ensures.dag))
     (plain_valid flat p c.keeps.ensures c.requires.line c.requires.some c.requires.few))
+
+pub returns-clause-uniform : goal.returns-clause-uniform
+returns-clause-uniform c = λ main.
+    let flat = c.args.flat.now in
+    let p = c.args.p in
+    of_value c.set_patterns.result (set_patterns flat c.in_ok-spread.spread) (λ dag. is_uniform dag ≡ true) c.set_patterns.ensures
+    (subst (λ dag. is_uniform (set_patterns flat dag) ≡ true) (sym (c.in_ok-spread.ensures ∙ ap (set_parallelism flat p) c.in_ok-first.ensures.dag))
+    (plain_uniform flat p c.keeps.ensures c.requires.line main))
