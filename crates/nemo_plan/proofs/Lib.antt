@@ -1,0 +1,9 @@
+pub mod Cutting
+pub mod Ends
+pub mod Graphs
+pub mod LinePlan
+pub mod Lists
+pub mod Own
+pub mod SoundLine
+pub mod Standing
+pub mod Uniform
