@@ -1,0 +1,10 @@
+pub mod Data
+pub mod Done
+pub mod Holds
+pub mod LeastCuts
+pub mod Legal
+pub mod Losses
+pub mod Parts
+pub mod Ready
+pub mod Solo
+pub mod Written
