@@ -1,0 +1,14 @@
+use Rattle.std.proofs.Common.{◌≡◌, []}
+use Rattle.std.specs.List.{flat_map}
+use Rattle.nemo_ir.specs.Along.{below}
+use Rattle.nemo_laws.specs.Solo.{task_rows, tasks_in, turn}
+use Rattle.nemo_replay.specs.Ready.{ready_core}
+use Rattle.nemo_replay.proofs.single.run_all.Given as goal
+
+-- the tasks so far have run
+abbrev pub invariant-loop-task : goal.invariant-loop-task
+invariant-loop-task l = record {
+  core : l.core ≡ ready_core l.plan l.settings l.task;
+  log : l.log.items ≡ flat_map (turn l.settings) (below l.task);
+  rows : l.rows.items ≡ flat_map (λ i. task_rows (tasks_in l.plan) i l.plan.flat.transforms []) (below l.task);
+}

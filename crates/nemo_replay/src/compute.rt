@@ -1,0 +1,56 @@
+ghost use Rattle.std.specs.Prelude.{◌≡◌, ◌≤◌, ◌<◌, [], IfOk, IsTrue};
+ghost use Rattle.std.specs.List.{AllPass};
+ghost use Rattle.nemo_ir.specs.Part.{dealt_to};
+ghost use Rattle.nemo_laws.specs.Solo.{task_rows};
+ghost use Rattle.nemo_transform.specs.Gives.{answers, is_built, rows_in};
+
+use nemo_ir::source_part;
+use nemo_transform::{Transform, apply};
+use nemo_value::{NoMemory, Record};
+use std::alloc::Global;
+
+/// The rows of a task after all these transforms, one after another. The first is a source, of which the task has its
+/// part.
+pub(crate) fn run_task(
+    alloc: Global,
+    transforms: &[Transform],
+    task: u32,
+    tasks: u32,
+) -> Result<Vec<Record>, NoMemory>
+    requires built { AllPass is_built transforms.now }
+    requires some { 1 ≤ tasks }
+    requires few { tasks ≤ 64 }
+    requires within { task < tasks }
+    ensures { IfOk result (λ rows. rows.items ≡ task_rows tasks task transforms.now []) }
+{
+    let mut rows = Vec::new(alloc);
+    for transform in transforms {
+        rows = apply_part(alloc, transform, rows, task, tasks)?;
+    }
+    Ok(rows)
+}
+
+/// What a transform gives to a task: a source its part of the rows, any other what comes of the rows before it.
+#[tactic(auto, using(nemo_transform::proofs::MapSteps::passing))]
+fn apply_part(
+    alloc: Global,
+    transform: &Transform,
+    rows: Vec<Record>,
+    task: u32,
+    tasks: u32,
+) -> Result<Vec<Record>, NoMemory>
+    requires built { IsTrue (is_built transform.now) }
+    requires some { 1 ≤ tasks }
+    requires few { tasks ≤ 64 }
+    requires within { task < tasks }
+    ensures { IfOk result (λ given. given.items ≡ rows_in (answers (dealt_to tasks task transform.now) rows.items [])) }
+{
+    match transform {
+        Transform::Source { rows: all } => source_part(alloc, all.as_slice(), task, tasks),
+        Transform::Sink { .. } => Ok(rows),
+        _ => {
+            let applied = apply(alloc, transform, rows.as_slice(), &[])?;
+            Ok(applied.rows.into_vec())
+        }
+    }
+}
