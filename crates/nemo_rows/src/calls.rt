@@ -7,9 +7,10 @@ use serde_json::Value;
 use std::alloc::{AllocError, Global};
 
 /// Whether the top call writes and answers what is expected. A row has the `words`, one space between them, the
-/// `input`, the `output` and the `status`. It may have the most bytes of a read and of a write, `read` and `write`,
-/// and the number of the one read or write that fails, `failed_read` and `failed_write`. With `cut` it is run on each
-/// proper front of its input, and expects the same each time.
+/// `input`, the `output` and the `status`. It may have the number of events in the history, `log`, which is else 0, the
+/// most bytes of a read and of a write, `read` and `write`, and the number of the one read or write that fails,
+/// `failed_read` and `failed_write`. With `cut` it is run on each proper front of its input, and expects the same each
+/// time.
 pub(crate) fn is_expected(alloc: Global, row: &Value) -> Result<bool, AllocError> {
     let input = bytes_of(alloc, row.get("input"))?;
     if row.get("cut").is_some() {
@@ -46,7 +47,8 @@ fn is_same(alloc: Global, row: &Value, input: &[u8]) -> Result<bool, AllocError>
     let wanted = bytes_of(alloc, row.get("output"))?;
     Ok(
         sink.bytes() == wanted.as_slice()
-            && u64::from(ended.status.number()) == number(row, "status"),
+            && u64::from(ended.status.number()) == number(row, "status")
+            && ended.log.len() as u64 == number(row, "log"),
     )
 }
 

@@ -5,6 +5,7 @@ use Rattle.std.specs.Io.KnownBytes.{Consumes, IsAtEnd}
 use Rattle.serde_json.specs.Data.{Data}
 use Rattle.nemo_bundle.specs.Read.{bundle_of}
 use Rattle.nemo_bundle.specs.declared.bundle.Bundle.{Bundle}
+use Rattle.nemo_core.specs.declared.event.Event.{Event}
 use Rattle.nemo_job.specs.Sinks.{job_rows}
 use Rattle.nemo_report.specs.Texts.{sinks_text}
 use Rattle.nemo_io.specs.Told.{IfTold}
@@ -13,7 +14,7 @@ use Rattle.nemo_top.specs.Words.{command_of, is_command}
 use Rattle.nemo_top.specs.declared.status.Status.{Status}
 use Rattle.nemo_top.specs.declared.status.Status.TheVariants.{Done, NotJson, BundleRefused, DagRefused, NoMemory}
 use Rattle.nemo_top.specs.declared.word.Command.{Command}
-use Rattle.nemo_top.specs.declared.word.Command.TheVariants.{Eval, Check}
+use Rattle.nemo_top.specs.declared.word.Command.TheVariants.{Eval, Check, Solo}
 
 -- all that there was is what was read
 all_is : (all rest bytes : List ℕ) → all ≡ bytes ++ rest → rest ≡ [] → bytes ≡ all
@@ -43,24 +44,28 @@ is_asked words command asked = ap is_some asked
 done_known : (command : Command) (b : Bundle) (text : List ℕ) → text ≡ done_text command b → IsDoneText command text
 done_known Eval b text h = (sinks_text (job_rows b.job), h)
 done_known Check b text h = (length (dag_of b).vertices, length (dag_of b).edges, h)
+done_known Solo b text h = (sinks_text (job_rows b.job), h)
 
 -- what the bytes lead to is what the call answers
-pub answers_read : (words : List (List ℕ)) (command : Command) (before after : Option (List ℕ)) (faults now : ℕ) (bytes : List ℕ) (status : Status) (text : List ℕ)
-    → command_of words ≡ Some command → now ≡ faults → Consumes before after bytes → IsAtEnd after → length bytes ≤ 33554432 → LeadsTo command bytes status text
-    → Answers (record { words = words; before = before; after = after; faults_before = faults; faults_after = now }) status text
-answers_read words command before after faults now bytes Done text asked kept taken at_end short leads = (
-  (command, asked, kept, few before after bytes taken at_end short, told before after bytes (λ all. (b : Bundle) × IsBundle all b × IsDone command b) taken at_end (leads.0, leads.1, leads.2)),
+pub answers_read : (words : List (List ℕ)) (command : Command) (before after : Option (List ℕ)) (faults now : ℕ) (bytes : List ℕ) (status : Status) (log : List Event) (text : List ℕ)
+    → command_of words ≡ Some command → now ≡ faults → Consumes before after bytes → IsAtEnd after → length bytes ≤ 33554432 → LeadsTo command bytes status log text
+    → Answers (record { words = words; before = before; after = after; faults_before = faults; faults_after = now }) status log text
+answers_read words command before after faults now bytes Done log text asked kept taken at_end short leads = (
+  (command, asked, kept, few before after bytes taken at_end short, told before after bytes (λ all. (b : Bundle) × IsBundle all b × IsDone command b log) taken at_end (leads.0, leads.1, leads.2)),
+  tt,
   (command, asked, done_known command leads.0 text leads.3, known before after bytes (λ all. (b : Bundle) × IsBundle all b × (text ≡ done_text command b)) taken at_end (leads.0, leads.1, leads.3)),
 )
-answers_read words command before after faults now bytes NotJson text asked kept taken at_end short leads =
-    ((is_asked words command asked, kept, few before after bytes taken at_end short, told before after bytes (λ all. (d : Data) → ¬ IsJson all d) taken at_end leads.0), leads.1)
-answers_read words command before after faults now bytes (BundleRefused code place) text asked kept taken at_end short leads = (
-  (is_asked words command asked, kept, few before after bytes taken at_end short, told before after bytes (λ all. (d : Data) × IsJson all d × (bundle_of d ≡ Err (record { code = code; place = place }))) taken at_end (leads.0, leads.1, leads.2)),
-  leads.3,
+answers_read words command before after faults now bytes NotJson log text asked kept taken at_end short leads =
+    ((is_asked words command asked, kept, few before after bytes taken at_end short, told before after bytes (λ all. (d : Data) → ¬ IsJson all d) taken at_end leads.1), leads.0, leads.2)
+answers_read words command before after faults now bytes (BundleRefused code place) log text asked kept taken at_end short leads = (
+  (is_asked words command asked, kept, few before after bytes taken at_end short, told before after bytes (λ all. (d : Data) × IsJson all d × (bundle_of d ≡ Err (record { code = code; place = place }))) taken at_end (leads.1, leads.2, leads.3)),
+  leads.0,
+  leads.4,
 )
-answers_read words command before after faults now bytes (DagRefused clause index) text asked kept taken at_end short leads = (
-  (command, asked, kept, few before after bytes taken at_end short, told before after bytes (λ all. (b : Bundle) × IsBundle all b × IsDagRefused command b clause index) taken at_end (leads.0, leads.1, leads.2)),
-  leads.3,
+answers_read words command before after faults now bytes (DagRefused clause index) log text asked kept taken at_end short leads = (
+  (command, asked, kept, few before after bytes taken at_end short, told before after bytes (λ all. (b : Bundle) × IsBundle all b × IsDagRefused command b clause index) taken at_end (leads.1, leads.2, leads.3)),
+  leads.0,
+  leads.4,
 )
-answers_read words command before after faults now bytes NoMemory text asked kept taken at_end short line = ((is_asked words command asked, kept, few before after bytes taken at_end short), line)
-answers_read words command before after faults now bytes _ text asked kept taken at_end short leads = absurd leads
+answers_read words command before after faults now bytes NoMemory log text asked kept taken at_end short leads = ((is_asked words command asked, kept, few before after bytes taken at_end short), leads.0, leads.1)
+answers_read words command before after faults now bytes _ log text asked kept taken at_end short leads = absurd leads

@@ -8,15 +8,21 @@ use Rattle.nemo_job.specs.Sinks.{job_faults, job_rows}
 use Rattle.nemo_bundle.specs.Read.{bundle_of}
 use Rattle.nemo_bundle.specs.declared.bundle.Bundle.{Bundle}
 use Rattle.nemo_flat.specs.Flat.{flat_of}
+use Rattle.nemo_flat.specs.Meaning.{flat_rows}
 use Rattle.nemo_ir.specs.Flat.{FlatForm}
 use Rattle.nemo_ir.specs.Valid.{Valid, FirstFailure}
 use Rattle.nemo_ir.specs.declared.dag.IrDag.{IrDag}
+use Rattle.nemo_base.specs.declared.settings.Settings.{Settings}
+use Rattle.nemo_core.specs.declared.event.Event.{Event}
+use Rattle.nemo_laws.specs.Done.{IsDoneRun}
+use Rattle.nemo_laws.specs.Written.{written}
+use Rattle.nemo_plan.specs.Form.{PlanForm}
 use Rattle.nemo_policy.specs.Passes.{plain_dag}
 use Rattle.nemo_report.specs.Texts.{sinks_text}
 use Rattle.nemo_top.specs.Statuses.{last_line, accepted_line}
 use Rattle.nemo_top.specs.Words.{command_of, is_command}
 use Rattle.nemo_top.specs.declared.word.Command.{Command}
-use Rattle.nemo_top.specs.declared.word.Command.TheVariants.{Eval, Check}
+use Rattle.nemo_top.specs.declared.word.Command.TheVariants.{Eval, Check, Solo}
 use Rattle.nemo_top.specs.declared.status.Status.{Status}
 use Rattle.nemo_top.specs.declared.status.Status.TheVariants.{Done, Usage, ReadFault, WriteFault, NotJson, TooLong, BundleRefused, DagRefused, NoMemory}
 
@@ -62,47 +68,73 @@ ReadsAll call P = IfTold call.before call.after (λ all rest. (rest ≡ []) × P
 abbrev pub dag_of : Bundle → IrDag
 dag_of b = unwrap_or b.dag (plain_dag (flat_of b.job) b.parallelism)
 
--- when a command ends as asked: `eval` where no fault reaches a sink, `check` where the DAG is valid
-abbrev pub IsDone : Command → Bundle → Type 0
-IsDone Eval b = job_faults b.job ≡ []
-IsDone Check b = Valid (flat_of b.job) (dag_of b)
+abbrev pub plan_of : Bundle → PlanForm
+plan_of b = record { flat = flat_of b.job; dag = dag_of b }
+
+-- the settings of a run
+abbrev pub standard : Settings
+standard = record { reserved = 1; transient = 0; loss_bound = 8; piece = 65536; sample = 8; decoded = 16777216 }
+
+-- What holds where `solo` is done: no fault reaches a sink of the job, its DAG is valid, and the history is legal for
+-- the plan, made of holds, and ends in Finish, with each block of each sink from one commit. These blocks are what the
+-- job gives to its sinks.
+pub record IsSoloDone (b : Bundle) (log : List Event) : Type 0 where
+  pub faultless : job_faults b.job ≡ []
+  pub valid : Valid (flat_of b.job) (dag_of b)
+  pub run : IsDoneRun (plan_of b) standard [] log
+  pub sinks : written (plan_of b) standard log ≡ job_rows b.job
+
+-- when a command ends as asked, with its history: `eval` where no fault reaches a sink, `check` where the DAG is
+-- valid, and `solo` after a run
+abbrev pub IsDone : Command → Bundle → List Event → Type 0
+IsDone Eval b log = (job_faults b.job ≡ []) × (log ≡ [])
+IsDone Check b log = Valid (flat_of b.job) (dag_of b) × (log ≡ [])
+IsDone Solo b log = IsSoloDone b log
 
 -- what it then writes: the sinks of the job and a last line, or how large the DAG is
 abbrev pub done_text : Command → Bundle → List ℕ
 done_text Eval b = sinks_text (job_rows b.job) ++ last_line Done
 done_text Check b = accepted_line (length (dag_of b).vertices) (length (dag_of b).edges)
+done_text Solo b = sinks_text (job_rows b.job) ++ last_line Done
 
 -- what is known of that text where the source tells no content
 abbrev pub IsDoneText : Command → List ℕ → Type 0
 IsDoneText Eval text = (sinks : List ℕ) × (text ≡ sinks ++ last_line Done)
 IsDoneText Check text = (n : ℕ) × (m : ℕ) × (text ≡ accepted_line n m)
+IsDoneText Solo text = (sinks : List ℕ) × (text ≡ sinks ++ last_line Done)
 
 -- the DAG that was proposed fails first there
 abbrev pub FailsFirst : FlatForm → Option IrDag → ℕ → ℕ → Type 0
 FailsFirst flat (Some dag) clause index = FirstFailure flat dag clause index
 FailsFirst flat None clause index = ⊥
 
--- `check` alone looks at it
+-- `eval` doesn't look at it
 abbrev pub IsDagRefused : Command → Bundle → ℕ → ℕ → Type 0
 IsDagRefused Eval b clause index = ⊥
 IsDagRefused Check b clause index = FailsFirst (flat_of b.job) b.dag clause index
+IsDagRefused Solo b clause index = FailsFirst (flat_of b.job) b.dag clause index
 
 -- the words are this command, and the content is a bundle of which P holds for it
 abbrev pub Finds : Call → (Command → Bundle → Type 0) → Type 0
 Finds call P = (command : Command) × (command_of call.words ≡ Some command) × ReadsWell call × TakesFew call × ReadsAll call (λ all. (b : Bundle) × IsBundle all b × P command b)
 
--- why a call answers a status, where no write fails
-abbrev pub HasCause : Call → Status → Type 0
-HasCause call Done = Finds call IsDone
-HasCause call Usage = (is_command call.words ≡ false) × ReadsWell call × (call.after ≡ call.before)
-HasCause call ReadFault = Commands call × Rose call.faults_before call.faults_after × TakesFew call
-HasCause call WriteFault = ⊥
-HasCause call NotJson = Commands call × ReadsWell call × TakesFew call × ReadsAll call (λ all. (d : Data) → ¬ IsJson all d)
-HasCause call TooLong = Commands call × ReadsWell call × TakesMany call
-HasCause call (BundleRefused code place) = Commands call × ReadsWell call × TakesFew call
+-- why a call answers a status, with a history, where no write fails
+abbrev pub HasCause : Call → Status → List Event → Type 0
+HasCause call Done log = Finds call (λ command b. IsDone command b log)
+HasCause call Usage log = (is_command call.words ≡ false) × ReadsWell call × (call.after ≡ call.before)
+HasCause call ReadFault log = Commands call × Rose call.faults_before call.faults_after × TakesFew call
+HasCause call WriteFault log = ⊥
+HasCause call NotJson log = Commands call × ReadsWell call × TakesFew call × ReadsAll call (λ all. (d : Data) → ¬ IsJson all d)
+HasCause call TooLong log = Commands call × ReadsWell call × TakesMany call
+HasCause call (BundleRefused code place) log = Commands call × ReadsWell call × TakesFew call
     × ReadsAll call (λ all. (d : Data) × IsJson all d × (bundle_of d ≡ Err (record { code = code; place = place })))
-HasCause call (DagRefused clause index) = Finds call (λ command b. IsDagRefused command b clause index)
-HasCause call NoMemory = Commands call × ReadsWell call × TakesFew call
+HasCause call (DagRefused clause index) log = Finds call (λ command b. IsDagRefused command b clause index)
+HasCause call NoMemory log = Commands call × ReadsWell call × TakesFew call
+
+-- a run that isn't done has left no history
+abbrev pub HasLog : Status → List Event → Type 0
+HasLog Done log = Unit {0}
+HasLog status log = log ≡ []
 
 -- the text of a status
 abbrev pub IsOutput : Call → Status → List ℕ → Type 0
@@ -110,9 +142,9 @@ IsOutput call Done text = (command : Command) × (command_of call.words ≡ Some
     × IfSome call.before (λ all. (b : Bundle) × IsBundle all b × (text ≡ done_text command b))
 IsOutput call status text = text ≡ last_line status
 
--- a status with its cause, and its text
-abbrev pub Answers : Call → Status → List ℕ → Type 0
-Answers call status text = HasCause call status × IsOutput call status text
+-- a status with its cause and its history, and its text
+abbrev pub Answers : Call → Status → List Event → List ℕ → Type 0
+Answers call status log text = HasCause call status log × HasLog status log × IsOutput call status text
 
 -- what a DAG that was proposed leads to
 abbrev pub Checks : FlatForm → IrDag → Status → List ℕ → Type 0
@@ -120,6 +152,26 @@ Checks flat dag Done text = Valid flat dag × (text ≡ accepted_line (length da
 Checks flat dag (DagRefused clause index) text = FirstFailure flat dag clause index × (text ≡ last_line (DagRefused clause index))
 Checks flat dag NoMemory text = text ≡ last_line NoMemory
 Checks flat dag _ text = ⊥
+
+-- the run of a plan that is done, with its history, and what its flat job gives to the sinks, which is from its commits
+pub record RanWell (p : PlanForm) (log : List Event) (text : List ℕ) : Type 0 where
+  pub valid : Valid p.flat p.dag
+  pub run : IsDoneRun p standard [] log
+  pub sinks : written p standard log ≡ flat_rows p.flat
+  pub is : text ≡ sinks_text (flat_rows p.flat) ++ last_line Done
+
+-- what the run of a valid DAG leads to
+abbrev pub RunsDag : FlatForm → IrDag → Status → List Event → List ℕ → Type 0
+RunsDag flat dag Done log text = RanWell (record { flat = flat; dag = dag }) log text
+RunsDag flat dag NoMemory log text = (log ≡ []) × (text ≡ last_line NoMemory)
+RunsDag flat dag _ log text = ⊥
+
+-- what the run of a DAG that was proposed leads to
+abbrev pub RunsProposed : FlatForm → IrDag → Status → List Event → List ℕ → Type 0
+RunsProposed flat dag Done log text = RanWell (record { flat = flat; dag = dag }) log text
+RunsProposed flat dag (DagRefused clause index) log text = (log ≡ []) × FirstFailure flat dag clause index × (text ≡ last_line (DagRefused clause index))
+RunsProposed flat dag NoMemory log text = (log ≡ []) × (text ≡ last_line NoMemory)
+RunsProposed flat dag _ log text = ⊥
 
 -- what the refusal of a DAG leads to
 abbrev pub IsRefusedDag : ℕ → ℕ → Status → List ℕ → Type 0
@@ -140,11 +192,11 @@ IsSized dag NoMemory text = text ≡ last_line NoMemory
 IsSized dag _ text = ⊥
 
 -- what a bundle leads to
-abbrev pub Runs : Command → Bundle → Status → List ℕ → Type 0
-Runs command b Done text = IsDone command b × (text ≡ done_text command b)
-Runs command b (DagRefused clause index) text = IsDagRefused command b clause index × (text ≡ last_line (DagRefused clause index))
-Runs command b NoMemory text = text ≡ last_line NoMemory
-Runs command b _ text = ⊥
+abbrev pub Runs : Command → Bundle → Status → List Event → List ℕ → Type 0
+Runs command b Done log text = IsDone command b log × (text ≡ done_text command b)
+Runs command b (DagRefused clause index) log text = (log ≡ []) × IsDagRefused command b clause index × (text ≡ last_line (DagRefused clause index))
+Runs command b NoMemory log text = (log ≡ []) × (text ≡ last_line NoMemory)
+Runs command b _ log text = ⊥
 
 -- what a refusal leads to
 abbrev pub Refuses : ℕ → ℕ → Status → List ℕ → Type 0
@@ -153,10 +205,10 @@ Refuses c p NoMemory text = text ≡ last_line NoMemory
 Refuses c p _ text = ⊥
 
 -- what content that was read to its end leads to
-abbrev pub LeadsTo : Command → List ℕ → Status → List ℕ → Type 0
-LeadsTo command all Done text = (b : Bundle) × IsBundle all b × IsDone command b × (text ≡ done_text command b)
-LeadsTo command all NotJson text = ((d : Data) → ¬ IsJson all d) × (text ≡ last_line NotJson)
-LeadsTo command all (BundleRefused code place) text = (d : Data) × IsJson all d × (bundle_of d ≡ Err (record { code = code; place = place })) × (text ≡ last_line (BundleRefused code place))
-LeadsTo command all (DagRefused clause index) text = (b : Bundle) × IsBundle all b × IsDagRefused command b clause index × (text ≡ last_line (DagRefused clause index))
-LeadsTo command all NoMemory text = text ≡ last_line NoMemory
-LeadsTo command all _ text = ⊥
+abbrev pub LeadsTo : Command → List ℕ → Status → List Event → List ℕ → Type 0
+LeadsTo command all Done log text = (b : Bundle) × IsBundle all b × IsDone command b log × (text ≡ done_text command b)
+LeadsTo command all NotJson log text = (log ≡ []) × ((d : Data) → ¬ IsJson all d) × (text ≡ last_line NotJson)
+LeadsTo command all (BundleRefused code place) log text = (log ≡ []) × (d : Data) × IsJson all d × (bundle_of d ≡ Err (record { code = code; place = place })) × (text ≡ last_line (BundleRefused code place))
+LeadsTo command all (DagRefused clause index) log text = (log ≡ []) × (b : Bundle) × IsBundle all b × IsDagRefused command b clause index × (text ≡ last_line (DagRefused clause index))
+LeadsTo command all NoMemory log text = (log ≡ []) × (text ≡ last_line NoMemory)
+LeadsTo command all _ log text = ⊥

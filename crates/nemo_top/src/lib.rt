@@ -5,6 +5,7 @@ mod accepting;
 mod lines;
 mod plain;
 mod reach;
+mod running;
 mod status;
 mod word;
 

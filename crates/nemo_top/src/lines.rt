@@ -3,26 +3,43 @@ ghost use Rattle.std.specs.Cow.{cow_slice_items};
 ghost use Rattle.nemo_top.specs.Statuses.{last_line, is_known};
 
 use crate::status::Status;
-use nemo_value::NoMemory;
+use nemo_core::Event;
+use nemo_value::{List, NoMemory};
 use std::alloc::Global;
 use std::borrow::CowSlice;
 
-/// A status that was reached before anything is written, with its text.
+/// A status that was reached before anything is written, with the history of its run and its text.
 #[derive(Drop)]
 pub struct Reached {
     pub status: Status,
+    pub log: List<Event>,
     pub text: CowSlice<'static, u8>,
 }
 
 /// A status whose text is a line that is known.
-pub(crate) fn with_line(status: Status) -> Reached
+pub(crate) fn with_line(alloc: Global, status: Status) -> Reached
     requires { is_known status ≡ true }
     ensures status { result.status ≡ status }
+    ensures log { result.log ≡ [] }
     ensures line { cow_slice_items result.text ≡ last_line status }
 {
     Reached {
         status,
+        log: List::new(alloc),
         text: CowSlice::Borrowed(line_of(&status)),
+    }
+}
+
+/// A status with its text, where nothing ran.
+pub(crate) fn with_text(alloc: Global, status: Status, text: Vec<u8>) -> Reached
+    ensures status { result.status ≡ status }
+    ensures log { result.log ≡ [] }
+    ensures text { cow_slice_items result.text ≡ text.items }
+{
+    Reached {
+        status,
+        log: List::new(alloc),
+        text: CowSlice::Owned(text),
     }
 }
 

@@ -12,22 +12,24 @@ use nemo_io::{Failed, Sink, Source, write_all};
 use std::alloc::Global;
 
 /// Serves the command that the words name, from the source to the sink: `eval` reads a bundle, evaluates its job and
-/// writes the sinks. Causes are looked at in the order words, reading, JSON, bundle. The text of the status is then
-/// written; where that fails, the status is WriteFault, and a part of the text was given.
+/// writes the sinks; `check` says whether its DAG computes its job; `solo` runs the DAG as tasks on one thread and
+/// writes the sinks. Causes are looked at in the order words, reading, JSON, bundle, DAG, run. The text of the status
+/// is then written; where that fails, the status is WriteFault, a part of the text was given, and the history stays.
 pub fn nemo_plain<S: Source, K: Sink>(
     alloc: Global,
     words: &[Word],
     source: &mut S,
     sink: &mut K,
 ) -> Ended
-    // Each status but WriteFault has its cause, and its text was given.
+    // Each status but WriteFault has its cause and its history, and its text was given.
     ensures wrote { let call = call_of words.now (S.left source.old) (S.left source.new) (S.faults source.old) (S.faults source.new) in
-        result.status ≢ Status.WriteFault → (text : List ℕ) × Answers call result.status text × Appends (K.given sink.old) (K.given sink.new) text }
+        result.status ≢ Status.WriteFault → (text : List ℕ) × Answers call result.status result.log text × Appends (K.given sink.old) (K.given sink.new) text }
     ensures sink_kept { result.status ≢ Status.WriteFault → K.faults sink.new ≡ K.faults sink.old }
 
-    // A WriteFault comes in the place of a status that has its cause, and a part of that one's text was given.
+    // A WriteFault comes in the place of a status that has its cause and this history, and a part of that one's text
+    // was given.
     ensures part { let call = call_of words.now (S.left source.old) (S.left source.new) (S.faults source.old) (S.faults source.new) in
-        result.status ≡ Status.WriteFault → (reached : Status) × (text : List ℕ) × Answers call reached text × AppendsPart (K.given sink.old) (K.given sink.new) text }
+        result.status ≡ Status.WriteFault → (reached : Status) × (text : List ℕ) × Answers call reached result.log text × AppendsPart (K.given sink.old) (K.given sink.new) text }
     ensures write_fault { result.status ≡ Status.WriteFault → Rose (K.faults sink.old) (K.faults sink.new) }
 {
     let reached = reach(alloc, words, source);
@@ -35,5 +37,8 @@ pub fn nemo_plain<S: Source, K: Sink>(
         Ok(()) => reached.status,
         Err(Failed) => Status::WriteFault,
     };
-    Ended { status }
+    Ended {
+        status,
+        log: reached.log,
+    }
 }

@@ -1,6 +1,9 @@
 ghost use Rattle.std.specs.Prelude.{◌≡◌};
 ghost use Rattle.nemo_top.specs.Statuses.{number_of};
 
+use nemo_core::Event;
+use nemo_value::List;
+
 /// How a call ended.
 #[derive(Clone, Copy, Debug, PartialEq, Eq)]
 pub enum Status {
@@ -24,10 +27,11 @@ pub enum Status {
     NoMemory,
 }
 
-/// What a call answers.
-#[derive(Clone, Copy, Debug, PartialEq, Eq)]
+/// What a call answers: how it ended, and the history of the run, which is empty where nothing ran.
+#[derive(Debug, Drop)]
 pub struct Ended {
     pub status: Status,
+    pub log: List<Event>,
 }
 
 impl Status {

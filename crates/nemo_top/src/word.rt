@@ -38,6 +38,8 @@ pub enum Command {
     Eval,
     /// To check the DAG.
     Check,
+    /// To run the job as tasks on one thread and print its sinks.
+    Solo,
 }
 
 /// The command that the words are: one word alone.
@@ -48,6 +50,7 @@ pub fn command_of(words: &[Word]) -> Option<Command>
         [word] => match word.as_str() {
             "eval" => Some(Command::Eval),
             "check" => Some(Command::Check),
+            "solo" => Some(Command::Solo),
             _ => None,
         },
         _ => None,

@@ -3,4 +3,4 @@ use Rattle.nemo_top.proofs.Unproposed.{runs_plain}
 use Rattle.nemo_top.proofs.accepting.check_bundle.Goals as goal
 
 pub returns : goal.returns
-returns c = runs_plain c.args.bundle.now _ c.accept_plain.result.status (cow_slice_items c.accept_plain.result.text) c.in-Ok.ensures.flat c.in-None.is c.accept_plain.ensures
+returns c = runs_plain c.args.bundle.now _ c.accept_plain.result.status c.accept_plain.result.log (cow_slice_items c.accept_plain.result.text) c.in-Ok.ensures.flat c.in-None.is c.accept_plain.ensures.log c.accept_plain.ensures.answer

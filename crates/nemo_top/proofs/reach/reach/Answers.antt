@@ -9,4 +9,4 @@ returns-in-Ok g c =
     let faults = g.S.Source.faults in
     let read = c.in-Ok.ensures in
     answers_read c.args.words.now _ (left c.args.source.now) (left c.read_to_end.new.source) (faults c.args.source.now) (faults c.read_to_end.new.source) c.in-Ok.bytes.items
-    c.evaluate.result.status (cow_slice_items c.evaluate.result.text) (search rules) (search rules) read.content read.end read.short c.evaluate.ensures
+    c.evaluate.result.status c.evaluate.result.log (cow_slice_items c.evaluate.result.text) (search rules) (search rules) read.content read.end read.short c.evaluate.ensures
