@@ -9,7 +9,7 @@ use Rattle.nemo_core.specs.declared.event.Event.{Event}
 use Rattle.nemo_job.specs.Sinks.{job_rows}
 use Rattle.nemo_report.specs.Texts.{sinks_text}
 use Rattle.nemo_io.specs.Told.{IfTold}
-use Rattle.nemo_top.specs.Outcome.{Answers, IsBundle, IsDagRefused, IsDone, IsDoneText, IsJson, LeadsTo, dag_of, done_text}
+use Rattle.nemo_top.specs.Outcome.{Answers, IsBundle, IsDagRefused, IsDone, IsDoneLog, IsDoneText, IsJson, LeadsTo, dag_of, done_text}
 use Rattle.nemo_top.specs.Words.{command_of, is_command}
 use Rattle.nemo_top.specs.declared.status.Status.{Status}
 use Rattle.nemo_top.specs.declared.status.Status.TheVariants.{Done, NotJson, BundleRefused, DagRefused, NoMemory}
@@ -46,13 +46,18 @@ done_known Eval b text h = (sinks_text (job_rows b.job), h)
 done_known Check b text h = (length (dag_of b).vertices, length (dag_of b).edges, h)
 done_known Solo b text h = (sinks_text (job_rows b.job), h)
 
+done_logged : (command : Command) (b : Bundle) (log : List Event) → IsDone command b log → IsDoneLog command log
+done_logged Eval b log h = h.1
+done_logged Check b log h = h.1
+done_logged Solo b log h = (h.run.before, h.run.ends)
+
 -- what the bytes lead to is what the call answers
 pub answers_read : (words : List (List ℕ)) (command : Command) (before after : Option (List ℕ)) (faults now : ℕ) (bytes : List ℕ) (status : Status) (log : List Event) (text : List ℕ)
     → command_of words ≡ Some command → now ≡ faults → Consumes before after bytes → IsAtEnd after → length bytes ≤ 33554432 → LeadsTo command bytes status log text
     → Answers (record { words = words; before = before; after = after; faults_before = faults; faults_after = now }) status log text
 answers_read words command before after faults now bytes Done log text asked kept taken at_end short leads = (
   (command, asked, kept, few before after bytes taken at_end short, told before after bytes (λ all. (b : Bundle) × IsBundle all b × IsDone command b log) taken at_end (leads.0, leads.1, leads.2)),
-  tt,
+  (command, asked, done_logged command leads.0 log leads.2),
   (command, asked, done_known command leads.0 text leads.3, known before after bytes (λ all. (b : Bundle) × IsBundle all b × (text ≡ done_text command b)) taken at_end (leads.0, leads.1, leads.3)),
 )
 answers_read words command before after faults now bytes NotJson log text asked kept taken at_end short leads =

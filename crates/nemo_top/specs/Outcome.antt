@@ -1,5 +1,5 @@
 -- What a call answers, and why.
-use Rattle.std.specs.Prelude.{◌≡◌, ◌<◌, ◌≤◌, ◌-◌, ℕ, List, [], ◌++◌, length, true, false, Option, Some, None, IfSome, IsUtf8, Ok, Err, unwrap_or}
+use Rattle.std.specs.Prelude.{◌≡◌, ◌<◌, ◌≤◌, ◌-◌, ℕ, List, [], ◌∷◌, ◌++◌, length, true, false, Option, Some, None, IfSome, IsUtf8, Ok, Err, unwrap_or}
 use Rattle.serde_json.specs.Data.{Data}
 use Rattle.serde_json.specs.Read.{read}
 use Rattle.nemo_io.specs.Faults.{Rose}
@@ -14,6 +14,7 @@ use Rattle.nemo_ir.specs.Valid.{Valid, FirstFailure}
 use Rattle.nemo_ir.specs.declared.dag.IrDag.{IrDag}
 use Rattle.nemo_base.specs.declared.settings.Settings.{Settings}
 use Rattle.nemo_core.specs.declared.event.Event.{Event}
+use Rattle.nemo_core.specs.declared.event.Event.TheVariants.{Finish}
 use Rattle.nemo_laws.specs.Done.{IsDoneRun}
 use Rattle.nemo_laws.specs.Written.{written}
 use Rattle.nemo_plan.specs.Form.{PlanForm}
@@ -131,10 +132,16 @@ HasCause call (BundleRefused code place) log = Commands call × ReadsWell call �
 HasCause call (DagRefused clause index) log = Finds call (λ command b. IsDagRefused command b clause index)
 HasCause call NoMemory log = Commands call × ReadsWell call × TakesFew call
 
--- a run that isn't done has left no history
-abbrev pub HasLog : Status → List Event → Type 0
-HasLog Done log = Unit {0}
-HasLog status log = log ≡ []
+-- the history of a command that is done: that of a run ends in Finish, and nothing else has one
+abbrev pub IsDoneLog : Command → List Event → Type 0
+IsDoneLog Eval log = log ≡ []
+IsDoneLog Check log = log ≡ []
+IsDoneLog Solo log = (before : List Event) × (log ≡ before ++ Finish ∷ [])
+
+-- what is known of the history where the source tells no content; what isn't done has left none
+abbrev pub HasLog : Call → Status → List Event → Type 0
+HasLog call Done log = (command : Command) × (command_of call.words ≡ Some command) × IsDoneLog command log
+HasLog call status log = log ≡ []
 
 -- the text of a status
 abbrev pub IsOutput : Call → Status → List ℕ → Type 0
@@ -144,7 +151,7 @@ IsOutput call status text = text ≡ last_line status
 
 -- a status with its cause and its history, and its text
 abbrev pub Answers : Call → Status → List Event → List ℕ → Type 0
-Answers call status log text = HasCause call status log × HasLog status log × IsOutput call status text
+Answers call status log text = HasCause call status log × HasLog call status log × IsOutput call status text
 
 -- what a DAG that was proposed leads to
 abbrev pub Checks : FlatForm → IrDag → Status → List ℕ → Type 0
