@@ -11,7 +11,8 @@ use Rattle.nemo_base.specs.Numbered.{map_at}
 use Rattle.nemo_base.specs.declared.annotation.Pattern.TheVariants.{OneToOne}
 use Rattle.nemo_value.specs.declared.expr.Expr.{Expr}
 use Rattle.nemo_transform.specs.Brought.{all_faults, at}
-use Rattle.nemo_transform.specs.Gives.{Row, answers, is_built as is_built_transform, is_filled, rows_in}
+use Rattle.nemo_transform.specs.Gives.{Row, answers, is_filled, rows_in}
+use Rattle.nemo_transform.specs.Soundness.{is_sound}
 use Rattle.nemo_transform.specs.declared.transform.Transform.{Transform}
 use Rattle.nemo_transform.specs.declared.transform.Transform.TheVariants.{Source, Map, Sink}
 use Rattle.nemo_transform.proofs.MapSteps.{rows_in-rows}
@@ -41,26 +42,26 @@ use Rattle.nemo_laws.proofs.Dealt.{dealt_filled}
 
 ---- the transforms of a chain
 
-map_built : (w : Work) (out : List Expr) → is_map w ≡ true → w ≡ Op (Map out) → is_built_transform (Map out) ≡ true
+map_built : (w : Work) (out : List Expr) → is_map w ≡ true → w ≡ Op (Map out) → is_sound (Map out) ≡ true
 map_built w out h e = first_so (nat_le 1 (length out) && nat_le (length out) 16) (list_all is_plain out) (sym (ap is_map e) ∙ h)
 
-rest_built : (ms : List JobVertex) (k : JobVertex) (name : List ℕ) → links name (ms ++ k ∷ []) ≡ true → list_all does_map ms ≡ true → list_all is_built_transform (table (ms ++ k ∷ [])) ≡ true
+rest_built : (ms : List JobVertex) (k : JobVertex) (name : List ℕ) → links name (ms ++ k ∷ []) ≡ true → list_all does_map ms ≡ true → list_all is_sound (table (ms ++ k ∷ [])) ≡ true
 rest_built [] k name h maps =
     let op = end_op k.name k.work (first_so (is_end k.name k.work) (follows name k.inputs) h) in
-    ap (list_all is_built_transform) (table_more k [] (Sink op.0) op.1)
+    ap (list_all is_sound) (table_more k [] (Sink op.0) op.1)
 rest_built (m ∷ ms) k name h maps =
     let l = link_of name m ms k h in
-    ap (list_all is_built_transform) (table_more m (ms ++ k ∷ []) (Map l.out) l.op)
+    ap (list_all is_sound) (table_more m (ms ++ k ∷ []) (Map l.out) l.op)
     ∙ both_true (map_built m.work l.out (first_so (is_map m.work) (list_all does_map ms) maps) l.op) (rest_built ms k m.name l.linked (second_so (is_map m.work) (list_all does_map ms) maps))
 
 -- each is one that is served
-pub chain_transforms : (vs : List JobVertex) → is_built vs ≡ true → list_all is_built_transform (flat_of vs).transforms ≡ true
-chain_transforms vs h = split vs h (λ us. list_all is_built_transform (flat_of us).transforms ≡ true)
+pub chain_transforms : (vs : List JobVertex) → is_built vs ≡ true → list_all is_sound (flat_of vs).transforms ≡ true
+chain_transforms vs h = split vs h (λ us. list_all is_sound (flat_of us).transforms ≡ true)
     (λ s ms k b.
     let rest = ms ++ k ∷ [] in
     let p = parts s rest b in
     let op = source_op s.work p.source in
-    ap (list_all is_built_transform) (table_more s rest (Source op.0) op.1) ∙ rest_built ms k s.name p.linked (middle s ms k b))
+    ap (list_all is_sound) (table_more s rest (Source op.0) op.1) ∙ rest_built ms k s.name p.linked (middle s ms k b))
 
 -- a transform of one port that has no faults on rows with fields, and gives such rows
 record IsStep (t : Transform) : Type 0 where

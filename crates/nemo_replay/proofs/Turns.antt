@@ -6,7 +6,7 @@ use Rattle.std.specs.List.{AllPass, flat_map}
 use Rattle.std.specs.Prelude.{Option, IsSome, is_some}
 use Rattle.nemo_base.specs.declared.id.TaskId.{TaskId}
 use Rattle.nemo_base.specs.declared.settings.Settings.{Settings}
-use Rattle.nemo_transform.specs.Gives.{is_built}
+use Rattle.nemo_transform.specs.Soundness.{is_sound}
 use Rattle.nemo_ir.specs.Along.{below}
 use Rattle.nemo_ir.proofs.Places.{same_item}
 use Rattle.nemo_core.specs.Reading.{launch_of, launchable}
@@ -115,11 +115,11 @@ turn_log p k i core log before later task a l named logged =
     logged ∙ ap (λ es. es ++ Commit a ∷ []) l.logged ∙ append_assoc before (Launch i (first_stage i) (slot_of k i) [] ∷ []) (Commit a ∷ [])
     ∙ ap (λ b. before ++ (Launch i (first_stage i) (slot_of k i) [] ∷ Commit b ∷ [])) named
 
--- each transform of the plan is served
-pub all_served : (p : PlanForm) → IsSolo p → AllPass is_built p.flat.transforms
-all_served p solo =
+-- each transform of the plan is sound
+pub all_sound : (p : PlanForm) → IsSolo p → AllPass is_sound p.flat.transforms
+all_sound p solo =
     let c = solo.chain in
-    subst (λ f. AllPass is_built f.transforms) (sym c.2) (AllPass-from_list_all is_built _ (chain_transforms c.0 c.1))
+    subst (λ f. AllPass is_sound f.transforms) (sym c.2) (AllPass-from_list_all is_sound _ (chain_transforms c.0 c.1))
 
 ---- turn after turn
 

@@ -2,7 +2,8 @@ ghost use Rattle.std.specs.Prelude.{◌≡◌, ◌≤◌, ◌<◌, [], IfOk, IsT
 ghost use Rattle.std.specs.List.{AllPass};
 ghost use Rattle.nemo_ir.specs.Part.{dealt_to};
 ghost use Rattle.nemo_laws.specs.Solo.{task_rows};
-ghost use Rattle.nemo_transform.specs.Gives.{answers, is_built, rows_in};
+ghost use Rattle.nemo_transform.specs.Gives.{answers, rows_in};
+ghost use Rattle.nemo_transform.specs.Soundness.{is_sound};
 
 use nemo_ir::source_part;
 use nemo_transform::{Transform, apply};
@@ -17,7 +18,7 @@ pub(crate) fn run_task(
     task: u32,
     tasks: u32,
 ) -> Result<Vec<Record>, NoMemory>
-    requires built { AllPass is_built transforms.now }
+    requires sound { AllPass is_sound transforms.now }
     requires some { 1 ≤ tasks }
     requires few { tasks ≤ 64 }
     requires within { task < tasks }
@@ -39,7 +40,7 @@ fn apply_part(
     task: u32,
     tasks: u32,
 ) -> Result<Vec<Record>, NoMemory>
-    requires built { IsTrue (is_built transform.now) }
+    requires sound { IsTrue (is_sound transform.now) }
     requires some { 1 ≤ tasks }
     requires few { tasks ≤ 64 }
     requires within { task < tasks }

@@ -1,5 +1,5 @@
 ghost use Rattle.std.specs.Prelude.{IfOk, IsTrue};
-ghost use Rattle.nemo_transform.specs.Gives.{is_built};
+ghost use Rattle.nemo_transform.specs.Soundness.{is_sound};
 
 use crate::parts::{bytes_of, number, text};
 use nemo_transform::{Transform, apply, ports};
@@ -136,7 +136,7 @@ fn answer(alloc: Global, value: Result<Field, EvalFault>) -> Result<Vec<u8>, NoM
 
 /// A map that divides 6 by the first field.
 fn six_over_first(alloc: Global) -> Result<Transform, NoMemory>
-    ensures { IfOk result (λ map. IsTrue (is_built map)) }
+    ensures { IfOk result (λ map. IsTrue (is_sound map)) }
 {
     let six = Boxed::new(alloc, Expr::Const(Field::Int(6)))?;
     let first = Boxed::new(alloc, Expr::Get(0))?;

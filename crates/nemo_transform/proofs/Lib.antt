@@ -1,3 +1,16 @@
+pub mod Borrowed
 pub mod FaultOrders
+pub mod FieldOrders
+pub mod FoldSteps
+pub mod GivenMembers
+pub mod GroupEntries
+pub mod GroupSteps
+pub mod JoinSteps
+pub mod Keeping
 pub mod MapSteps
+pub mod ReduceAnswers
+pub mod RowSteps
 pub mod Rows
+pub mod RowsByKey
+pub mod Tests
+pub mod WordPieces

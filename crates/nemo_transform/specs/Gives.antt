@@ -1,5 +1,5 @@
 -- What a transform gives on lists of rows: a list of answers, each a row or a fault.
-use Rattle.std.specs.Prelude.{ℕ, ℤ, pos, ◌+ℤ◌, ◌==◌, ◌&&◌, List, [], ◌∷◌, ◌++◌, length, map, drop, slice_get, unwrap_or, filter, reverse, Option, Some, None, Result, Ok, Err, Bool, true, false, nat_le, if◌then◌else◌}
+use Rattle.std.specs.Prelude.{ℕ, ℤ, pos, ◌+ℤ◌, ◌==◌, List, [], ◌∷◌, ◌++◌, length, map, drop, slice_get, unwrap_or, filter, reverse, Option, Some, None, Result, Ok, Err, Bool, true, false, nat_le, if◌then◌else◌}
 use Rattle.std.specs.List.{flat_map, filter_map}
 use Rattle.std.specs.Ordering.{is_eq}
 use Rattle.nemo_value.specs.Ascending.{ascending}
@@ -193,10 +193,3 @@ rows_in given = filter_map row_in given
 -- the faults among them, by kind and record, each once
 abbrev pub own_faults : List Answer → List Fault
 own_faults given = ascending fault_cmp (filter_map fault_in given)
-
--- whether `apply` serves the transform yet, and it has as many expressions as it may
-abbrev pub is_built : Transform → Bool
-is_built (Source rows) = true
-is_built (Map out) = nat_le 1 (length out) && nat_le (length out) 16
-is_built (Sink name) = true
-is_built _ = false

@@ -1,5 +1,5 @@
 -- Which transforms are sound.
-use Rattle.std.specs.Prelude.{ℕ, ◌&&◌, nat_le, List, length, Bool, true}
+use Rattle.std.specs.Prelude.{ℕ, ◌&&◌, nat_le, length, Bool, true}
 use Rattle.std.specs.List.{list_all}
 use Rattle.nemo_transform.specs.declared.transform.Transform.{Transform}
 use Rattle.nemo_transform.specs.declared.transform.Transform.TheVariants.{Map, Emit, Union}

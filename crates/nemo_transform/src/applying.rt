@@ -1,8 +1,12 @@
 ghost use Rattle.std.specs.Prelude.{◌≡◌, ◌≤◌, [], length, IfOk, IsTrue};
 ghost use Rattle.nemo_value.specs.Answers.{Gives};
-ghost use Rattle.nemo_transform.specs.Gives.{row_of, answers, rows_in, own_faults, map_answers, is_built};
+ghost use Rattle.nemo_transform.specs.Gives.{row_of, answers, rows_in, own_faults, map_answers};
+ghost use Rattle.nemo_transform.specs.Soundness.{is_sound};
 
 use crate::fault::{Fault, in_order};
+use crate::grouping::{distinct, reduced};
+use crate::joining::joined;
+use crate::rowwise::{emitted, filtered, worded};
 use crate::transform::Transform;
 use nemo_value::{EvalFault, Expr, List, NoMemory, Record, TryCopy, eval};
 use std::alloc::Global;
@@ -23,16 +27,21 @@ pub fn apply(
     first: &[Record],
     second: &[Record],
 ) -> Result<Applied, NoMemory>
-    requires { IsTrue (is_built transform.now) }
+    requires { IsTrue (is_sound transform.now) }
     ensures rows { IfOk result (λ a. a.rows ≡ rows_in (answers transform.now first.now second.now)) }
     ensures faults { IfOk result (λ a. a.faults ≡ own_faults (answers transform.now first.now second.now)) }
 {
-    let _unread = second;
     match transform {
         Transform::Source { rows } => passed(alloc, rows.as_slice()),
         Transform::Map { out } => mapped(alloc, out.as_slice(), first),
+        Transform::Filter { cond } => filtered(alloc, cond, first),
+        Transform::Emit { outs } => emitted(alloc, outs.as_slice(), first),
+        Transform::Words { field } => worded(alloc, *field, first),
+        Transform::Union { .. } => passed(alloc, first),
+        Transform::Reduce { by, field } => reduced(alloc, *by, *field, first),
+        Transform::Distinct => distinct(alloc, first),
+        Transform::Join | Transform::SideJoin => joined(alloc, first, second),
         Transform::Sink { .. } => passed(alloc, first),
-        _ => unreachable!(),
     }
 }
 
@@ -74,7 +83,7 @@ fn mapped(alloc: Global, out: &[Expr], rows: &[Record]) -> Result<Applied, NoMem
 
 /// The row of the values of `out` on a row, or the first fault.
 #[tactic(auto, using(crate::proofs::Rows::more))]
-fn make_row(alloc: Global, out: &[Expr], row: &Record) -> Result<Record, EvalFault>
+pub(crate) fn make_row(alloc: Global, out: &[Expr], row: &Record) -> Result<Record, EvalFault>
     requires some { 1 ≤ length out.now }
     requires few { length out.now ≤ 16 }
     ensures { Gives result (row_of out.now row.now) }

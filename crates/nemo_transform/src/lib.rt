@@ -4,6 +4,9 @@
 mod applying;
 mod counting;
 mod fault;
+mod grouping;
+mod joining;
+mod rowwise;
 mod shape;
 mod transform;
 

@@ -1,18 +1,18 @@
 use Rattle.std.proofs.Common.{◌≡◌, ◌∙◌, ap, sym, subst, ◌<◌, []}
 use Rattle.std.specs.List.{AllPass}
-use Rattle.nemo_transform.specs.Gives.{is_built}
+use Rattle.nemo_transform.specs.Soundness.{is_sound}
 use Rattle.nemo_laws.specs.Solo.{task_rows, tasks_in}
-use Rattle.nemo_replay.proofs.Turns.{all_served, is_some_task, next_launchable, turn_allowed, turn_core, turn_launched, turn_log}
+use Rattle.nemo_replay.proofs.Turns.{all_sound, is_some_task, next_launchable, turn_allowed, turn_core, turn_launched, turn_log}
 use Rattle.nemo_replay.proofs.single.take_turn.Goals as goal
 
 pub launch-requires-clause-some : goal.launch-requires-clause-some
 launch-requires-clause-some c =
     is_some_task _ _ (next_launchable c.args.plan.now c.args.settings c.args.task c.args.core.now c.slot_of.result c.requires.plan c.requires.range c.requires.within c.requires.ready c.slot_of.ensures)
 
-pub run_task-requires-clause-built : goal.run_task-requires-clause-built
-run_task-requires-clause-built c =
+pub run_task-requires-clause-sound : goal.run_task-requires-clause-sound
+run_task-requires-clause-sound c =
     let is : c.as_slice-transforms.result.now ≡ c.args.plan.now.flat.transforms = c.as_slice-transforms.ensures ∙ ap (λ f. f.transforms) (c.behind-plan.view_is ∙ c.flat.ensures) in
-    subst (AllPass is_built) (sym is) (all_served c.args.plan.now c.requires.plan)
+    subst (AllPass is_sound) (sym is) (all_sound c.args.plan.now c.requires.plan)
 
 pub run_task-requires-clause-within : goal.run_task-requires-clause-within
 run_task-requires-clause-within c =

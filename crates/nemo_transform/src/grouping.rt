@@ -1,0 +1,199 @@
+ghost use Rattle.std.specs.Prelude.{◌≡◌, ◌+◌, ◌^◌, ◌<◌, ◌≤◌, [], ◌∷◌, ◌++◌, option_to_list, IfOk};
+ghost use Rattle.std.specs.Option.{option_copied};
+ghost use Rattle.nemo_value.specs.Answers.{Gives};
+ghost use Rattle.nemo_transform.specs.Folds.{known, known_or, known_group, start_of, folding_of, folded_with, with_read, why, value_in, lesser, greater, size};
+ghost use Rattle.nemo_transform.specs.Gives.{answers, rows_in, own_faults, read};
+ghost use Rattle.nemo_transform.specs.declared.transform.Transform.TheVariants.{Reduce, Distinct};
+
+use crate::applying::Applied;
+use crate::fault::{Fault, in_order};
+use crate::transform::Folding;
+use nemo_value::{EvalFault, Field, Kind, List, NoMemory, Record, TryCopy};
+use std::alloc::Global;
+use std::cmp::Ordering;
+use std::collections::{BTreeMap, BTreeSet};
+
+/// Each different row once, in ascending order.
+#[tactic(auto, using(crate::proofs::MapSteps::passing))]
+pub(crate) fn distinct(alloc: Global, rows: &[Record]) -> Result<Applied, NoMemory>
+    ensures rows { IfOk result (λ a. a.rows ≡ rows_in (answers Distinct rows.now [])) }
+    ensures faults { IfOk result (λ a. a.faults ≡ own_faults (answers Distinct rows.now [])) }
+{
+    let mut seen: BTreeSet<&Record> = BTreeSet::new(alloc);
+    for row in rows {
+        seen.insert(row)?;
+    }
+    let mut different = List::with_capacity(alloc, seen.len())?;
+    for row in seen {
+        different.push(row.copy(alloc)?)?;
+    }
+    Ok(Applied {
+        rows: different,
+        faults: List::new(alloc),
+    })
+}
+
+/// Of each key in ascending order the key and the fold of its rows' fields, or the faults of its bad rows.
+pub(crate) fn reduced(
+    alloc: Global,
+    by: Folding,
+    field: u32,
+    rows: &[Record],
+) -> Result<Applied, NoMemory>
+    ensures rows { IfOk result (λ a. a.rows ≡ rows_in (answers (Reduce by field) rows.now [])) }
+    ensures faults { IfOk result (λ a. a.faults ≡ own_faults (answers (Reduce by field) rows.now [])) }
+{
+    let empty = start(by);
+    let mut groups: BTreeMap<&Field, Group<'_>> = BTreeMap::new(alloc);
+    let mut faults = Vec::new(alloc);
+    for row in rows {
+        let group = groups.entry(row.key())?.or_insert(empty);
+        let (more, why) = with_row(*group, row.get(field));
+        *group = more;
+        if let Some(kind) = why {
+            faults.push(Fault {
+                kind,
+                rec: row.copy(alloc)?,
+            })?;
+        }
+    }
+    let mut given = List::with_capacity(alloc, groups.len())?;
+    for (key, group) in groups {
+        if group.is_bad {
+            continue;
+        }
+        match value_of(alloc, group.fold) {
+            Ok(Some(value)) => given.push(key_row(alloc, key, Some(value))?)?,
+            Ok(None) => {}
+            Err(EvalFault::Fault(kind)) => faults.push(Fault {
+                kind,
+                rec: key_row(alloc, key, None)?,
+            })?,
+            Err(EvalFault::NoMemory) => return Err(NoMemory),
+        }
+    }
+    Ok(Applied {
+        rows: given,
+        faults: in_order(alloc, faults)?,
+    })
+}
+
+/// The row of a key and, where it has one, a value.
+fn key_row(alloc: Global, key: &Field, value: Option<Field>) -> Result<Record, NoMemory>
+    ensures { IfOk result (λ row. row ≡ key.now ∷ [] ++ option_to_list value) }
+{
+    let mut fields = List::with_capacity(alloc, 2)?;
+    fields.push(key.copy(alloc)?)?;
+    if let Some(field) = value {
+        fields.push(field)?;
+    }
+    match Record::new(fields) {
+        Ok(row) => Ok(row),
+        Err(_) => unreachable!(),
+    }
+}
+
+/// What a reduce made of the rows of a key so far. The least and the greatest field are borrowed.
+#[derive(Clone, Copy)]
+enum Fold<'a> {
+    Sum(i128),
+    Count(i128),
+    Min(Option<&'a Field>),
+    Max(Option<&'a Field>),
+}
+
+/// A fold of the rows of a key, and whether one of them is bad.
+#[derive(Clone, Copy)]
+struct Group<'a> {
+    fold: Fold<'a>,
+    is_bad: bool,
+}
+
+/// The fold of no rows.
+fn start<'a>(by: Folding) -> Group<'a>
+    ensures known { known_group result ≡ start_of by }
+    ensures size { size result.fold ≡ 0 }
+{
+    let fold = match by {
+        Folding::Sum => Fold::Sum(0),
+        Folding::Count => Fold::Count(0),
+        Folding::Min => Fold::Min(None),
+        Folding::Max => Fold::Max(None),
+    };
+    Group {
+        fold,
+        is_bad: false,
+    }
+}
+
+/// The group with a row more, where `value` is the row's field; and why the row is bad, if it is.
+fn with_row<'a>(group: Group<'a>, value: Option<&'a Field>) -> (Group<'a>, Option<Kind>)
+    requires { size group.fold + 2 ^ 64 < 2 ^ 127 }
+    ensures known { known_group result.0 ≡ with_read (known_group group.entry) (read (folding_of (known group.entry.fold)) (option_copied value.entry)) }
+    ensures why { result.1 ≡ why (read (folding_of (known group.entry.fold)) (option_copied value.entry)) }
+    ensures size { size result.0.fold ≤ size group.entry.fold + 2 ^ 63 }
+{
+    let is_bad = group.is_bad;
+    match folded(group.fold, value) {
+        Ok(fold) => (Group { fold, is_bad }, None),
+        Err(kind) => (
+            Group {
+                fold: group.fold,
+                is_bad: true,
+            },
+            Some(kind),
+        ),
+    }
+}
+
+/// The fold with the field of a row more, or why there is none to fold.
+fn folded<'a>(fold: Fold<'a>, value: Option<&'a Field>) -> Result<Fold<'a>, Kind>
+    requires { size fold + 2 ^ 64 < 2 ^ 127 }
+    ensures known { known_or result ≡ folded_with (known fold.entry) (read (folding_of (known fold.entry)) (option_copied value.entry)) }
+    ensures size { IfOk result (λ more. size more ≤ size fold.entry + 2 ^ 63) }
+{
+    match (fold, value) {
+        (Fold::Count(count), _) => Ok(Fold::Count(count + 1)),
+        (_, None) => Err(Kind::NoField),
+        (Fold::Sum(sum), Some(Field::Int(n))) => Ok(Fold::Sum(sum + i128::from(*n))),
+        (Fold::Sum(_), Some(Field::Text(_))) => Err(Kind::Typed),
+        (Fold::Min(None), Some(field)) => Ok(Fold::Min(Some(field))),
+        (Fold::Min(Some(best)), Some(field)) => Ok(Fold::Min(Some(lesser(best, field)))),
+        (Fold::Max(None), Some(field)) => Ok(Fold::Max(Some(field))),
+        (Fold::Max(Some(best)), Some(field)) => Ok(Fold::Max(Some(greater(best, field)))),
+    }
+}
+
+fn lesser<'a>(best: &'a Field, field: &'a Field) -> &'a Field
+    ensures { result.now ≡ lesser best.now field.now }
+{
+    match field.cmp(best) {
+        Ordering::Less => field,
+        _ => best,
+    }
+}
+
+fn greater<'a>(best: &'a Field, field: &'a Field) -> &'a Field
+    ensures { result.now ≡ greater best.now field.now }
+{
+    match field.cmp(best) {
+        Ordering::Greater => field,
+        _ => best,
+    }
+}
+
+/// The value of a fold, if it has one; a sum that doesn't fit 64 bits is a fault.
+fn value_of(alloc: Global, fold: Fold<'_>) -> Result<Option<Field>, EvalFault>
+    ensures { Gives result (value_in (known fold.entry)) }
+{
+    match fold {
+        Fold::Sum(n) | Fold::Count(n) => match i64::try_from(n) {
+            Ok(n) => Ok(Some(Field::Int(n))),
+            Err(_) => Err(EvalFault::Fault(Kind::Overflow)),
+        },
+        Fold::Min(best) | Fold::Max(best) => match best {
+            Some(field) => Ok(Some(field.copy(alloc)?)),
+            None => Ok(None),
+        },
+    }
+}

@@ -1,0 +1,97 @@
+ghost use Rattle.std.specs.Prelude.{◌≡◌, ◌≤◌, ◌++◌, [], map, drop, length, IfOk};
+ghost use Rattle.std.specs.List.{flat_map, filter_map};
+ghost use Rattle.std.specs.Option.{option_map_or};
+ghost use Rattle.std.specs.BTreeMap.{get_by};
+ghost use Rattle.nemo_value.specs.Order.{field_cmp};
+ghost use Rattle.nemo_value.specs.declared.field.Field.{Field};
+ghost use Rattle.nemo_transform.specs.Gives.{joined, pair, with_key, rows_in, fault_in, own_faults, is_filled};
+
+use crate::applying::Applied;
+use crate::fault::{Fault, in_order};
+use nemo_value::{Field, Kind, List, NoMemory, Record, TryCopy};
+use std::alloc::Global;
+use std::collections::BTreeMap;
+
+/// The most fields that a record may have.
+const MAX_FIELDS: usize = 16;
+
+/// Of each left row the rows with the right rows of its key, in their order, and a fault where these are too wide.
+pub(crate) fn joined(alloc: Global, left: &[Record], right: &[Record]) -> Result<Applied, NoMemory>
+    ensures rows { IfOk result (λ a. a.rows ≡ rows_in (flat_map (joined right.now) left.now)) }
+    ensures faults { IfOk result (λ a. a.faults ≡ own_faults (flat_map (joined right.now) left.now)) }
+{
+    let by_key = rows_by_key(alloc, right)?;
+    let mut rows = List::new(alloc);
+    let mut faults = Vec::new(alloc);
+    for row in left {
+        let key = row.key();
+        let Some(others) = by_key.get(&key) else {
+            continue;
+        };
+        if push_pairs(alloc, row, others, &mut rows)? {
+            faults.push(Fault {
+                kind: Kind::Wide,
+                rec: row.copy(alloc)?,
+            })?;
+        }
+    }
+    Ok(Applied {
+        rows,
+        faults: in_order(alloc, faults)?,
+    })
+}
+
+/// For each key the rows that have it, in their order.
+fn rows_by_key<'a>(
+    alloc: Global,
+    rows: &'a [Record],
+) -> Result<BTreeMap<&'a Field, Vec<&'a Record>>, NoMemory>
+    ensures { IfOk result (λ m. (q : Field) → option_map_or (λ g. map (λ r. r.now) g.items) (get_by (λ k. field_cmp q k.now) m) [] ≡ with_key q rows.now) }
+{
+    let mut by_key: BTreeMap<&'a Field, Vec<&'a Record>> = BTreeMap::new(alloc);
+    for row in rows {
+        by_key.entry(row.key())?.or_default().push(row)?;
+    }
+    Ok(by_key)
+}
+
+/// Puts the rows of a left row with some right ones behind others; whether some of these are too wide.
+fn push_pairs(
+    alloc: Global,
+    left: &Record,
+    right: &[&Record],
+    rows: &mut List<Record>,
+) -> Result<bool, NoMemory>
+    ensures rows { IfOk result (λ wide. rows.new ≡ rows.old ++ rows_in (map (pair left.now) (map (λ r. r.now) right.now))) }
+    ensures wide { IfOk result (λ wide. wide ≡ is_filled (filter_map fault_in (map (pair left.now) (map (λ r. r.now) right.now)))) }
+{
+    let mut wide = false;
+    for other in right {
+        if left.fields().len() + other.fields().len() - 1 <= MAX_FIELDS {
+            rows.push(paired(alloc, left, other)?)?;
+        } else {
+            wide = true;
+        }
+    }
+    Ok(wide)
+}
+
+/// The left fields, and then the right ones from field 1.
+fn paired(alloc: Global, left: &Record, right: &Record) -> Result<Record, NoMemory>
+    requires { length (left.now ++ drop 1 right.now) ≤ 16 }
+    ensures { IfOk result (λ row. row ≡ left.now ++ drop 1 right.now) }
+{
+    let own = left.fields();
+    let more = right.fields();
+    let mut fields = List::with_capacity(alloc, own.len() + more.len() - 1)?;
+    for field in own.as_slice() {
+        fields.push(field.copy(alloc)?)?;
+    }
+    for field in &more.as_slice()[1..] {
+        fields.push(field.copy(alloc)?)?;
+    }
+    match Record::new(fields) {
+        Ok(row) => Ok(row),
+        Err(_) => unreachable!(),
+    }
+}
