@@ -5,6 +5,7 @@
 mod calls;
 mod parts;
 mod report;
+mod transforms;
 mod values;
 
 use nemo_io::{StdSource, read_to_end};

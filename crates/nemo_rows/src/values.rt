@@ -2,6 +2,7 @@ ghost use Rattle.std.specs.Prelude.{IfOk, IsTrue};
 ghost use Rattle.nemo_transform.specs.Soundness.{is_sound};
 
 use crate::parts::{bytes_of, number, text};
+use crate::transforms::transform_row;
 use nemo_transform::{Transform, apply, ports};
 use nemo_value::{
     Boxed, EvalFault, Expr, Field, List, Name, NoMemory, Oper, Record, Same, Text, TryCopy,
@@ -28,6 +29,7 @@ fn value_of(alloc: Global, row: &Value) -> Result<Vec<u8>, NoMemory> {
         "eval" => eval_of(alloc, row),
         "copy" => copy_of(alloc),
         "apply" => apply_of(alloc, row),
+        "transform" => transform_row(alloc, row),
         _ => Ok(Vec::new(alloc)),
     }
 }
