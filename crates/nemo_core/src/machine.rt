@@ -1,4 +1,4 @@
-ghost use Rattle.std.specs.Prelude.{◌≡◌, ◌<◌, ◌^◌, [], map, true, IfOk, IfErr, OnOk, OnErr, None, Some, length, slice_get};
+ghost use Rattle.std.specs.Prelude.{◌≡◌, ◌<◌, ◌^◌, [], map, true, IfOk, IfErr, OnOk, OnErr, None, Some, length};
 ghost use Rattle.nemo_base.specs.Sound.{is_in, is_sound};
 ghost use Rattle.nemo_core.specs.Numbered.{map_at};
 ghost use Rattle.nemo_core.specs.Run.{refusal_in, stepped};

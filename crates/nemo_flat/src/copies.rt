@@ -22,7 +22,6 @@ pub enum FlattenRefused {
 }
 
 impl From<NoMemory> for FlattenRefused {
-    ghost use Rattle.nemo_flat.specs.Meaning.{flat_rows};
     ghost use Rattle.nemo_flat.specs.declared.copies.FlattenRefused.TheVariants.{NoMemory};
     ghost use Rattle.std.specs.Prelude.{◌≡◌};
 

@@ -2,8 +2,9 @@ ghost use Rattle.std.specs.Prelude.{IfOk, IsTrue};
 ghost use Rattle.nemo_transform.specs.Soundness.{is_sound};
 
 use crate::parts::{number, text};
+use crate::values::field_of;
 use nemo_transform::{Applied, Folding, Output, Transform, apply};
-use nemo_value::{Expr, Field, List, NoMemory, Record, Text};
+use nemo_value::{Expr, Field, List, NoMemory, Record};
 use serde_json::Value;
 use std::alloc::Global;
 
@@ -79,22 +80,10 @@ fn fields_in(alloc: Global, value: &Value) -> Result<List<Field>, NoMemory> {
     let mut fields = List::new(alloc);
     if let Some(all) = value.as_array() {
         for item in all {
-            fields.push(field_in(alloc, item)?)?;
+            fields.push(field_of(alloc, Some(item))?)?;
         }
     }
     Ok(fields)
-}
-
-/// A number, or else a text.
-fn field_in(alloc: Global, value: &Value) -> Result<Field, NoMemory> {
-    if let Some(n) = value.as_i64() {
-        return Ok(Field::Int(n));
-    }
-    let own = String::from_str(alloc, value.as_str().unwrap_or(""))?;
-    match Text::new(own) {
-        Ok(text) => Ok(Field::Text(text)),
-        Err(_) => Ok(Field::Int(0)),
-    }
 }
 
 fn push_answers(alloc: Global, line: &mut String, applied: &Applied) -> Result<(), NoMemory> {

@@ -70,7 +70,7 @@ fn record_of(alloc: Global, row: &Value) -> Result<Vec<u8>, NoMemory> {
 }
 
 /// A field: a number, or else a text.
-fn field_of(alloc: Global, value: Option<&Value>) -> Result<Field, NoMemory> {
+pub(crate) fn field_of(alloc: Global, value: Option<&Value>) -> Result<Field, NoMemory> {
     if let Some(n) = value.and_then(Value::as_i64) {
         return Ok(Field::Int(n));
     }
