@@ -1,6 +1,6 @@
 -- Lists that are read item by item.
 use Rattle.std.proofs.Common.{◌≡◌, refl, ◌++◌, ◌∷◌, [], List, append_assoc, Option, Some, None}
-use Rattle.nemo_bundle.specs.Read.{with_first}
+use Rattle.nemo_bundle.specs.Parts.{with_first}
 
 -- items in front of the others, where the others are there
 abbrev pub with_front : {X : Type 0} → List X → Option (List X) → Option (List X)

@@ -1,19 +1,36 @@
 -- Arrays of a length that no form has.
-use Rattle.std.proofs.Common.{◌≡◌, refl, [], ◌∷◌, List, length, None, ◌<◌, arith}
+use Rattle.std.proofs.Common.{◌≡◌, refl, [], ◌∷◌, List, length, Option, None, ◌<◌, arith}
 use Rattle.serde_json.specs.declared.value.Value.{Value}
+use Rattle.serde_json.specs.Data.{Data}
 use Rattle.serde_json.specs.View.{items_view}
-use Rattle.nemo_bundle.specs.Read.{expr_from, entry_from, edge_from}
+use Rattle.nemo_value.specs.declared.expr.Expr.{Expr}
+use Rattle.nemo_bundle.specs.Exprs.{expr_from}
+use Rattle.nemo_bundle.specs.Dags.{entry_from, edge_from}
+use Rattle.nemo_bundle.specs.Vertices.{ref_from}
 
-pub expr_of_fewer : (vs : List Value) → length vs < 2 → expr_from (items_view vs) ≡ None
-expr_of_fewer [] h = refl
-expr_of_fewer (a ∷ []) h = refl
-expr_of_fewer (a ∷ b ∷ vs) h = absurd (omega arith)
+pub form_of_fewer : (reads : Data → Option Expr) (vs : List Value) → length vs < 2 → expr_from reads (items_view vs) ≡ None
+form_of_fewer reads [] h = refl
+form_of_fewer reads (a ∷ []) h = refl
+form_of_fewer reads (a ∷ b ∷ vs) h = absurd (omega arith)
 
-pub expr_of_more : (vs : List Value) → ¬ (length vs < 3) → expr_from (items_view vs) ≡ None
-expr_of_more [] h = refl
-expr_of_more (a ∷ []) h = refl
-expr_of_more (a ∷ b ∷ []) h = absurd (omega arith)
-expr_of_more (a ∷ b ∷ c ∷ vs) h = refl
+pub form_of_more : (reads : Data → Option Expr) (vs : List Value) → ¬ (length vs < 5) → expr_from reads (items_view vs) ≡ None
+form_of_more reads [] h = refl
+form_of_more reads (a ∷ []) h = refl
+form_of_more reads (a ∷ b ∷ []) h = absurd (omega arith)
+form_of_more reads (a ∷ b ∷ c ∷ []) h = absurd (omega arith)
+form_of_more reads (a ∷ b ∷ c ∷ d ∷ []) h = absurd (omega arith)
+form_of_more reads (a ∷ b ∷ c ∷ d ∷ e ∷ vs) h = refl
+
+pub ref_of_fewer : (vs : List Value) → length vs < 2 → ref_from (items_view vs) ≡ None
+ref_of_fewer [] h = refl
+ref_of_fewer (a ∷ []) h = refl
+ref_of_fewer (a ∷ b ∷ vs) h = absurd (omega arith)
+
+pub ref_of_more : (vs : List Value) → ¬ (length vs < 3) → ref_from (items_view vs) ≡ None
+ref_of_more [] h = refl
+ref_of_more (a ∷ []) h = refl
+ref_of_more (a ∷ b ∷ []) h = absurd (omega arith)
+ref_of_more (a ∷ b ∷ c ∷ vs) h = refl
 
 pub entry_of_fewer : (vs : List Value) → length vs < 4 → entry_from (items_view vs) ≡ None
 entry_of_fewer [] h = refl

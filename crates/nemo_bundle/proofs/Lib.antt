@@ -1,4 +1,5 @@
-pub mod Filled
+pub mod Depths
+pub mod Fitting
 pub mod Fronts
 pub mod Lengths
 pub mod Passing

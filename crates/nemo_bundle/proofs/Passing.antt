@@ -1,9 +1,10 @@
 -- Tests that everything passes that is read.
 use Rattle.std.proofs.Common.{◌≡◌, refl, ℕ, List, Option, Some, None, option_map, option_and_then, Bool, true, false, ◌&&◌, if◌then◌else◌}
+use Rattle.std.specs.Cmp.{first_so, second_so}
 use Rattle.std.specs.List.{list_all}
 use Rattle.serde_json.specs.Data.{Data, Items, no_items, item}
 use Rattle.serde_json.specs.Find.{get, as_array}
-use Rattle.nemo_bundle.specs.Read.{with_first, each, array_of, member_of}
+use Rattle.nemo_bundle.specs.Parts.{with_first, each, array_of, member_of, tested}
 
 -- whether what is there passes
 abbrev pub passes : {X : Type 0} → (X → Bool) → Option X → Bool
@@ -44,3 +45,21 @@ pub array_passes : {X : Type 0} (reads : Data → Option X) (test : X → Bool) 
 array_passes reads test h name d =
     then_passes (list_all test) (array_of reads) (get name d)
     (λ e. then_passes (list_all test) (each reads) (as_array e) (each_passes reads test h))
+
+-- what passes both tests passes each of them
+pub first_passes : {X : Type 0} (p q : X → Bool) (o : Option X) → passes (λ x. p x && q x) o ≡ true → passes p o ≡ true
+first_passes p q (Some x) h = first_so (p x) (q x) h
+first_passes p q None h = refl
+
+pub second_passes : {X : Type 0} (p q : X → Bool) (o : Option X) → passes (λ x. p x && q x) o ≡ true → passes q o ≡ true
+second_passes p q (Some x) h = second_so (p x) (q x) h
+second_passes p q None h = refl
+
+-- what a test has let through passes it, beside another
+pub tested_passes : {X : Type 0} (test more : X → Bool) (o : Option X) → passes more o ≡ true → passes (λ x. test x && more x) (tested test o) ≡ true
+tested_passes test more (Some x) h = go (test x) refl
+  where
+    go : (b : Bool) → test x ≡ b → passes (λ x. test x && more x) (if b then Some x else None) ≡ true
+    go true e = both (test x) (more x) e h
+    go false e = refl
+tested_passes test more None h = refl

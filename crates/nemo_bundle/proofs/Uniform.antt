@@ -9,9 +9,12 @@ use Rattle.nemo_ir.specs.Uniform.{first_tasks, is_op, is_transient, is_uniform, 
 use Rattle.nemo_ir.specs.declared.dag.IrDag.{IrDag}
 use Rattle.nemo_ir.specs.declared.dag.IrEdge.{IrEdge}
 use Rattle.nemo_ir.specs.declared.dag.IrVertex.{IrVertex}
+use Rattle.nemo_job.specs.Kept.{kept}
 use Rattle.nemo_job.specs.declared.vertex.JobVertex.{JobVertex}
 use Rattle.nemo_bundle.specs.Answers.{unserved}
-use Rattle.nemo_bundle.specs.Read.{are_among, array_of, bundle_from, bundle_of, bundle_with, dag_in, dag_of, dag_with, edge_from, edge_of, edge_with, entry_from, entry_of, is_exactly, is_served, is_word, job_of, member_of, number_of, op_at, parallelism_in, tested, whole_of}
+use Rattle.nemo_bundle.specs.Dags.{are_among, dag_in, dag_of, dag_with, edge_from, edge_of, edge_with, entry_from, entry_of, op_at, parallelism_in}
+use Rattle.nemo_bundle.specs.Parts.{array_of, is_exactly, is_word, member_of, number_of, tested, whole_of}
+use Rattle.nemo_bundle.specs.Read.{bundle_from, bundle_of, bundle_with, is_served, job_of}
 use Rattle.nemo_bundle.specs.declared.bundle.Bundle.{Bundle}
 use Rattle.nemo_bundle.proofs.Passing.{passes, both, true_passes, if_passes, map_passes, then_passes, array_passes}
 
@@ -33,9 +36,9 @@ edge_uniform (item from (item to (item port (item pattern (item flow (item keep 
     (edge_with (number_of from) (number_of to) (number_of port)) None (ends_uniform (number_of from) (number_of to) (number_of port)) refl
 edge_uniform _ = refl
 
-tested_passes : {X : Type 0} (test keeps : X → Bool) (o : Option X) → passes test o ≡ true → passes test (tested keeps o) ≡ true
-tested_passes test keeps (Some x) h = if_passes test (keeps x) (Some x) None h refl
-tested_passes test keeps None h = refl
+tested_still : {X : Type 0} (test keeps : X → Bool) (o : Option X) → passes test o ≡ true → passes test (tested keeps o) ≡ true
+tested_still test keeps (Some x) h = if_passes test (keeps x) (Some x) None h refl
+tested_still test keeps None h = refl
 
 -- Ops of one task have the parallelism of the first
 level : (us : List IrVertex) → list_all (is_uniform_op 1) us ≡ true → list_all (is_uniform_op (first_tasks us)) us ≡ true
@@ -57,7 +60,7 @@ dag_uniform n d =
     let us = member_of (codes "vertices") (array_of entry_of) d in
     let es = member_of (codes "edges") (array_of edge_of) d in
     with_uniform (tested (are_among n) us) es (member_of (codes "rep") (array_of number_of) d)
-    (tested_passes (list_all (is_uniform_op 1)) (are_among n) us
+    (tested_still (list_all (is_uniform_op 1)) (are_among n) us
     (array_passes entry_of (is_uniform_op 1) (λ e. then_passes (is_uniform_op 1) entry_from (as_array e) entry_uniform) (codes "vertices") d))
     (array_passes edge_of is_uniform_edge (λ e. then_passes is_uniform_edge edge_from (as_array e) edge_uniform) (codes "edges") d)
 
@@ -88,4 +91,4 @@ pub bundle_uniform : (d : Data) (b : Bundle) → bundle_of d ≡ Ok b → IfSome
 bundle_uniform d b e =
     where_some b.dag
     (accepted (is_served d) (option_and_then (bundle_from d) (job_of d)) b
-    (then_passes suits (bundle_from d) (job_of d) (λ vs. bundle_suits vs (parallelism_in (get (codes "parallelism") d)) (dag_in (length vs) (get (codes "dag") d)) (in_uniform (length vs) (get (codes "dag") d)))) e)
+    (then_passes suits (bundle_from d) (job_of d) (λ vs. bundle_suits vs (parallelism_in (get (codes "parallelism") d)) (dag_in (length (kept vs)) (get (codes "dag") d)) (in_uniform (length (kept vs)) (get (codes "dag") d)))) e)

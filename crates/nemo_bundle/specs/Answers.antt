@@ -5,9 +5,9 @@ use Rattle.nemo_bundle.specs.declared.end.BundleEnd.TheVariants.{Refused, NoMemo
 use Rattle.nemo_job.specs.declared.job.JobRefused.{JobRefused}
 use Rattle.nemo_job.specs.declared.job.JobRefused.TheVariants as job
 
--- a job that is refused ends the reading of its bundle
+-- a job that is refused isn't served
 abbrev pub end_of : JobRefused → BundleEnd
-end_of (job.Refused code place) = Refused code place
+end_of (job.Refused code place) = Refused 90 0
 end_of job.NoMemory = NoMemory
 
 -- why a value is refused, and where

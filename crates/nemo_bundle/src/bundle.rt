@@ -3,6 +3,7 @@ ghost use Rattle.std.specs.List.{list_all};
 ghost use Rattle.serde_json.specs.Find.{get};
 ghost use Rattle.serde_json.specs.View.{view};
 ghost use Rattle.nemo_ir.specs.Uniform.{is_uniform};
+ghost use Rattle.nemo_job.specs.Chain.{has_fields};
 ghost use Rattle.nemo_bundle.specs.Answers.{Gives, Reads};
 ghost use Rattle.nemo_bundle.specs.Read.{bundle_of, job_of};
 ghost use Rattle.nemo_bundle.specs.Read as spec;
@@ -11,7 +12,7 @@ use crate::dags::{read_dag, read_parallelism};
 use crate::end::{BundleEnd, UNSERVED};
 use crate::read::read_member;
 use nemo_ir::IrDag;
-use nemo_job::{Job, JobVertex, is_chain};
+use nemo_job::{Job, JobVertex, count_kept};
 use nemo_value::List;
 use serde_json::Value;
 use std::alloc::Global;
@@ -31,10 +32,11 @@ pub struct Bundle {
 }
 
 /// The bundle that a JSON value stands for. What has not the form that is served is refused with code 90 and place 0.
-/// A DAG that it proposes is uniform.
+/// A DAG that it proposes is uniform, and each row of its sources has a field.
 pub fn read_bundle(alloc: Global, value: &Value) -> Result<Bundle, BundleEnd>
     ensures bundle { Gives result (bundle_of (view value.now)) }
     ensures tasks { IfOk result (λ b. (1 ≤ b.parallelism) × (b.parallelism ≤ 64)) }
+    ensures filled { IfOk result (λ b. list_all has_fields b.job ≡ true) }
     ensures uniform { IfOk result (λ b. IfSome b.dag (λ dag. is_uniform dag ≡ true)) }
 {
     if !is_served(value) {
@@ -42,7 +44,8 @@ pub fn read_bundle(alloc: Global, value: &Value) -> Result<Bundle, BundleEnd>
     }
     let job = read_job(alloc, value)?;
     let parallelism = read_parallelism(alloc, value)?;
-    let dag = read_dag(alloc, value, job.vertices().len())?;
+    let count = count_kept(alloc, job.vertices().as_slice())?;
+    let dag = read_dag(alloc, value, count)?;
     Ok(Bundle {
         job,
         parallelism,
@@ -64,13 +67,16 @@ fn has_none(value: &Value, names: &[&str]) -> bool
     names.iter().all(|name| value.get(*name).is_none())
 }
 
-#[tactic(auto, using(crate::proofs::Filled::chain_built))]
+/// The most vertices of a job.
+const MAX_VERTICES: usize = 512;
+
 fn read_job(alloc: Global, value: &Value) -> Result<Job, BundleEnd>
-    ensures { Reads result (job_of (view value.now)) }
+    ensures job { Reads result (job_of (view value.now)) }
+    ensures filled { IfOk result (λ job. list_all has_fields job ≡ true) }
 {
     let vertices: List<JobVertex> = read_member(alloc, value, "job")?;
-    if !is_chain(alloc, vertices.as_slice())? {
+    if vertices.len() > MAX_VERTICES {
         return Err(UNSERVED);
     }
-    Ok(Job::new(vertices.into_vec())?)
+    Ok(Job::new(alloc, vertices.into_vec())?)
 }

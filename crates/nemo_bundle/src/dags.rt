@@ -2,7 +2,8 @@ ghost use Rattle.std.specs.Prelude.{◌≡◌, ◌≤◌, ◌&&◌, IfOk, codes,
 ghost use Rattle.serde_json.specs.Find.{as_str, get};
 ghost use Rattle.serde_json.specs.View.{view, items_view};
 ghost use Rattle.nemo_bundle.specs.Answers.{Reads};
-ghost use Rattle.nemo_bundle.specs.Read as spec;
+ghost use Rattle.nemo_bundle.specs.Dags as spec;
+ghost use Rattle.nemo_bundle.specs.Parts as parts;
 
 use crate::end::{BundleEnd, UNSERVED};
 use crate::read::{FromJson, read_member};
@@ -14,7 +15,7 @@ use std::alloc::Global;
 
 /// A whole number of 32 bits without a sign.
 impl FromJson for u32 {
-    ghost use Rattle.nemo_bundle.specs.Read.{number_of};
+    ghost use Rattle.nemo_bundle.specs.Parts.{number_of};
 
     ghost reads = { number_of };
 
@@ -26,7 +27,7 @@ impl FromJson for u32 {
 
 /// An edge along which each task reads the task of its own number.
 impl FromJson for IrEdge {
-    ghost use Rattle.nemo_bundle.specs.Read.{edge_of};
+    ghost use Rattle.nemo_bundle.specs.Dags.{edge_of};
 
     ghost reads = { edge_of };
 
@@ -52,7 +53,7 @@ fn read_edge(alloc: Global, items: &[Value]) -> Result<IrEdge, BundleEnd>
 }
 
 fn read_ends(alloc: Global, from: &Value, to: &Value, port: &Value) -> Result<IrEdge, BundleEnd>
-    ensures { Reads result (spec.edge_with (spec.number_of (view from.now)) (spec.number_of (view to.now)) (spec.number_of (view port.now))) }
+    ensures { Reads result (spec.edge_with (parts.number_of (view from.now)) (parts.number_of (view to.now)) (parts.number_of (view port.now))) }
 {
     Ok(IrEdge {
         from: u32::from_json(alloc, from)?,
@@ -65,8 +66,8 @@ fn read_ends(alloc: Global, from: &Value, to: &Value, port: &Value) -> Result<Ir
 }
 
 /// Whether the value is this text.
-fn is_word(value: &Value, word: &str) -> bool
-    ensures { result ≡ spec.is_word word.now (as_str (view value.now)) }
+pub(crate) fn is_word(value: &Value, word: &str) -> bool
+    ensures { result ≡ parts.is_word word.now (as_str (view value.now)) }
 {
     value.as_str() == Some(word)
 }
@@ -74,7 +75,7 @@ fn is_word(value: &Value, word: &str) -> bool
 /// An Op of one task on a transient machine, with the transform of a flat vertex, which in a chain is the transform of
 /// its number.
 impl FromJson for IrVertex {
-    ghost use Rattle.nemo_bundle.specs.Read.{entry_of};
+    ghost use Rattle.nemo_bundle.specs.Dags.{entry_of};
 
     ghost reads = { entry_of };
 
@@ -100,7 +101,7 @@ fn read_entry(alloc: Global, items: &[Value]) -> Result<IrVertex, BundleEnd>
 }
 
 fn read_op(alloc: Global, x: &Value) -> Result<IrVertex, BundleEnd>
-    ensures { Reads result (option_map spec.op_at (spec.number_of (view x.now))) }
+    ensures { Reads result (option_map spec.op_at (parts.number_of (view x.now))) }
 {
     Ok(IrVertex {
         kind: VertexKind::Op(u32::from_json(alloc, x)?),
@@ -153,7 +154,7 @@ fn read_lists(alloc: Global, dag: &Value, count: usize) -> Result<IrDag, BundleE
 }
 
 fn read_vertices(alloc: Global, dag: &Value, count: usize) -> Result<List<IrVertex>, BundleEnd>
-    ensures { Reads result (spec.tested (spec.are_among count) (spec.member_of (codes "vertices") (spec.array_of spec.entry_of) (view dag.now))) }
+    ensures { Reads result (parts.tested (spec.are_among count) (parts.member_of (codes "vertices") (parts.array_of spec.entry_of) (view dag.now))) }
 {
     let vertices: List<IrVertex> = read_member(alloc, dag, "vertices")?;
     if are_among(count, vertices.as_slice()) {
@@ -178,7 +179,7 @@ pub(crate) fn read_parallelism(alloc: Global, value: &Value) -> Result<u32, Bund
 }
 
 fn read_tasks(alloc: Global, value: &Value) -> Result<u32, BundleEnd>
-    ensures number { Reads result (spec.tested (λ n. nat_le 1 n && nat_le n 64) (spec.number_of (view value.now))) }
+    ensures number { Reads result (parts.tested (λ n. nat_le 1 n && nat_le n 64) (parts.number_of (view value.now))) }
     ensures range { IfOk result (λ n. (1 ≤ n) × (n ≤ 64)) }
 {
     let n = u32::from_json(alloc, value)?;

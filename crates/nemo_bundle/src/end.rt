@@ -13,7 +13,7 @@ pub enum BundleEnd {
 }
 
 /// The refusal of what isn't served yet.
-pub(crate) const UNSERVED: BundleEnd = BundleEnd::Refused { code: 90, place: 0 };
+pub const UNSERVED: BundleEnd = BundleEnd::Refused { code: 90, place: 0 };
 
 impl From<NoMemory> for BundleEnd {
     ghost use Rattle.std.specs.Prelude.{◌≡◌};
@@ -26,6 +26,7 @@ impl From<NoMemory> for BundleEnd {
     }
 }
 
+/// For now a job that is refused isn't served.
 impl From<JobRefused> for BundleEnd {
     ghost use Rattle.std.specs.Prelude.{◌≡◌};
     ghost use Rattle.nemo_bundle.specs.Answers.{end_of};
@@ -34,7 +35,7 @@ impl From<JobRefused> for BundleEnd {
 
     fn from(refused: JobRefused) -> BundleEnd {
         match refused {
-            JobRefused::Refused { code, place } => BundleEnd::Refused { code, place },
+            JobRefused::Refused { .. } => UNSERVED,
             JobRefused::NoMemory => BundleEnd::NoMemory,
         }
     }

@@ -9,4 +9,4 @@ mod read;
 mod vertices;
 
 pub use bundle::{Bundle, read_bundle};
-pub use end::BundleEnd;
+pub use end::{BundleEnd, UNSERVED};

@@ -1,16 +1,19 @@
+ghost use Rattle.std.specs.Prelude.{◌≡◌, IfOk};
 ghost use Rattle.serde_json.specs.View.{view, items_view};
 ghost use Rattle.nemo_bundle.specs.Answers.{Reads};
-ghost use Rattle.nemo_bundle.specs.Read.{expr_by, expr_from};
+ghost use Rattle.nemo_bundle.specs.Exprs as spec;
+ghost use Rattle.nemo_bundle.specs.Parts.{place_of};
 
+use crate::dags::is_word;
 use crate::end::{BundleEnd, UNSERVED};
 use crate::read::{FromJson, owned};
-use nemo_value::{Expr, Field, List, Name, Record, Text};
+use nemo_value::{Boxed, Expr, Field, List, MAX_FIELDS, Name, NoMemory, Oper, Record, Text};
 use serde_json::Value;
 use std::alloc::Global;
 
 /// A whole number of 64 bits, or a text of at most 65,535 bytes.
 impl FromJson for Field {
-    ghost use Rattle.nemo_bundle.specs.Read.{field_of};
+    ghost use Rattle.nemo_bundle.specs.Parts.{field_of};
 
     ghost reads = { field_of };
 
@@ -26,7 +29,7 @@ impl FromJson for Field {
 
 /// An array of 1 to 16 fields.
 impl FromJson for Record {
-    ghost use Rattle.nemo_bundle.specs.Read.{record_of};
+    ghost use Rattle.nemo_bundle.specs.Parts.{record_of};
 
     ghost reads = { record_of };
 
@@ -37,7 +40,7 @@ impl FromJson for Record {
 
 /// A text that is a name.
 impl FromJson for Name {
-    ghost use Rattle.nemo_bundle.specs.Read.{name_of};
+    ghost use Rattle.nemo_bundle.specs.Parts.{name_of};
 
     ghost reads = { name_of };
 
@@ -47,33 +50,131 @@ impl FromJson for Name {
     }
 }
 
-/// The first field `["f",0]`, or a constant `["c",x]`.
+/// An expression, at most 32 deep.
 impl FromJson for Expr {
-    ghost use Rattle.nemo_bundle.specs.Read.{expr_of};
+    ghost use Rattle.nemo_bundle.specs.Exprs.{expr_of};
 
     ghost reads = { expr_of };
 
     fn from_json(alloc: Global, value: &Value) -> Result<Expr, BundleEnd> {
-        read_expr(alloc, value.as_array().ok_or(UNSERVED)?.as_slice())
+        read_expr(alloc, value, MAX_DEPTH)
     }
 }
 
-fn read_expr(alloc: Global, items: &[Value]) -> Result<Expr, BundleEnd>
-    ensures { Reads result (expr_from (items_view items.now)) }
+/// The most constructs that are open at a place of an expression.
+const MAX_DEPTH: u32 = 32;
+
+/// An expression that is at most `depth` deep.
+#[cycle(expr)]
+fn read_expr(alloc: Global, value: &Value, depth: u32) -> Result<Expr, BundleEnd>
+    ensures { Reads result (spec.expr_within depth (view value.now)) }
+{
+    if depth == 0 {
+        return Err(UNSERVED);
+    }
+    read_form(
+        alloc,
+        value.as_array().ok_or(UNSERVED)?.as_slice(),
+        depth - 1,
+    )
+}
+
+/// A word and what it wants, whose expressions are at most `depth` deep.
+#[cycle(expr)]
+fn read_form(alloc: Global, items: &[Value], depth: u32) -> Result<Expr, BundleEnd>
+    ensures { Reads result (spec.expr_from (spec.expr_within depth) (items_view items.now)) }
 {
     match items {
-        [word, value] => read_expr_by(alloc, word.as_str().ok_or(UNSERVED)?, value),
+        [word, a] => read_one(alloc, word.as_str().ok_or(UNSERVED)?, a, depth),
+        [word, a, b] => read_pair(alloc, word.as_str().ok_or(UNSERVED)?, a, b, depth),
+        [word, test, a, b] => {
+            if is_word(word, "if") {
+                read_choice(alloc, test, a, b, depth)
+            } else {
+                Err(UNSERVED)
+            }
+        }
         _ => Err(UNSERVED),
     }
 }
 
-/// The expression that the word begins, with what stands after it.
-fn read_expr_by(alloc: Global, word: &str, value: &Value) -> Result<Expr, BundleEnd>
-    ensures { Reads result (expr_by (view value.now) word.now) }
+/// A field, a constant, or the length of a text.
+#[cycle(expr)]
+fn read_one(alloc: Global, word: &str, value: &Value, depth: u32) -> Result<Expr, BundleEnd>
+    ensures { Reads result (spec.one_by (spec.expr_within depth) (view value.now) word.now) }
 {
     match word {
-        "f" if value.as_i64() == Some(0) => Ok(Expr::Get(0)),
+        "f" => Ok(Expr::Get(read_place(alloc, value)?)),
         "c" => Ok(Expr::Const(Field::from_json(alloc, value)?)),
+        "len" => Ok(Expr::Len(read_boxed(alloc, value, depth)?)),
         _ => Err(UNSERVED),
+    }
+}
+
+#[cycle(expr)]
+fn read_pair(alloc: Global, word: &str, a: &Value, b: &Value, depth: u32) -> Result<Expr, BundleEnd>
+    ensures { Reads result (spec.pair_by (spec.expr_within depth) (view a.now) (view b.now) word.now) }
+{
+    let oper = oper_of(word).ok_or(UNSERVED)?;
+    let first = read_boxed(alloc, a, depth)?;
+    let second = read_boxed(alloc, b, depth)?;
+    Ok(Expr::Pair(oper, first, second))
+}
+
+#[cycle(expr)]
+fn read_choice(
+    alloc: Global,
+    test: &Value,
+    a: &Value,
+    b: &Value,
+    depth: u32,
+) -> Result<Expr, BundleEnd>
+    ensures { Reads result (spec.choice_with (spec.expr_within depth (view test.now)) (spec.expr_within depth (view a.now)) (spec.expr_within depth (view b.now))) }
+{
+    let test = read_boxed(alloc, test, depth)?;
+    let first = read_boxed(alloc, a, depth)?;
+    let second = read_boxed(alloc, b, depth)?;
+    Ok(Expr::If(test, first, second))
+}
+
+#[cycle(expr)]
+fn read_boxed(alloc: Global, value: &Value, depth: u32) -> Result<Boxed<Expr>, BundleEnd>
+    ensures { Reads result (spec.expr_within depth (view value.now)) }
+{
+    Ok(boxed(alloc, read_expr(alloc, value, depth)?)?)
+}
+
+fn boxed(alloc: Global, expr: Expr) -> Result<Boxed<Expr>, NoMemory>
+    ensures { IfOk result (λ box. box ≡ expr) }
+{
+    Ok(Boxed::new(alloc, expr)?)
+}
+
+/// The operator of a word.
+fn oper_of(word: &str) -> Option<Oper>
+    ensures { result ≡ spec.oper_of word.now }
+{
+    match word {
+        "+" => Some(Oper::Add),
+        "-" => Some(Oper::Sub),
+        "*" => Some(Oper::Mul),
+        "/" => Some(Oper::Div),
+        "%" => Some(Oper::Rem),
+        "<" => Some(Oper::Less),
+        "=" => Some(Oper::Same),
+        "cat" => Some(Oper::Cat),
+        _ => None,
+    }
+}
+
+/// The place of a field, 0 to 15.
+pub(crate) fn read_place(alloc: Global, value: &Value) -> Result<u32, BundleEnd>
+    ensures { Reads result (place_of (view value.now)) }
+{
+    let place = u32::from_json(alloc, value)?;
+    if (place as usize) < MAX_FIELDS {
+        Ok(place)
+    } else {
+        Err(UNSERVED)
     }
 }

@@ -2,7 +2,7 @@ ghost use Rattle.std.specs.Prelude.{◌≡◌, Option, string_bytes, IfOk};
 ghost use Rattle.serde_json.specs.Data.{Data};
 ghost use Rattle.serde_json.specs.View.{view, items_view};
 ghost use Rattle.nemo_bundle.specs.Answers.{Reads};
-ghost use Rattle.nemo_bundle.specs.Read.{each, member_of};
+ghost use Rattle.nemo_bundle.specs.Parts.{each, member_of};
 
 use crate::end::{BundleEnd, UNSERVED};
 use nemo_value::{List, NoMemory};
@@ -19,7 +19,7 @@ pub(crate) trait FromJson: Drop {
 
 /// An array of what can be read.
 impl<T: FromJson> FromJson for List<T> {
-    ghost use Rattle.nemo_bundle.specs.Read.{array_of};
+    ghost use Rattle.nemo_bundle.specs.Parts.{array_of};
 
     ghost reads = { array_of T.reads };
 

@@ -1,40 +1,60 @@
-ghost use Rattle.serde_json.specs.View.{view};
+ghost use Rattle.std.specs.Prelude.{◌≡◌, Some};
+ghost use Rattle.serde_json.specs.View.{view, items_view};
+ghost use Rattle.nemo_transform.specs.declared.transform.Transform.TheVariants.{Union};
 ghost use Rattle.nemo_bundle.specs.Answers.{Reads};
-ghost use Rattle.nemo_bundle.specs.Read.{inputs_of, map_of, transform_by, transform_of};
+ghost use Rattle.nemo_bundle.specs.Vertices as spec;
 
 use crate::end::{BundleEnd, UNSERVED};
+use crate::parts::read_place;
 use crate::read::{FromJson, read_member};
 use nemo_job::{JobVertex, Ref, Work};
-use nemo_transform::Transform;
+use nemo_transform::{Folding, Output, Transform};
 use nemo_value::{Expr, List, Name, TryCopy};
 use serde_json::Value;
 use std::alloc::Global;
 
-/// The most expressions of a map.
+/// The most expressions of a map, and the most outputs of an emit.
 const MAX_OUT: usize = 16;
 
-/// A name alone, which names port 0.
+/// A name alone, which names port 0, or an array of a name and a port.
 impl FromJson for Ref {
-    ghost use Rattle.nemo_bundle.specs.Read.{ref_of};
+    ghost use Rattle.nemo_bundle.specs.Vertices.{ref_of};
 
     ghost reads = { ref_of };
 
     fn from_json(alloc: Global, value: &Value) -> Result<Ref, BundleEnd> {
-        let name = Name::from_json(alloc, value)?;
-        Ok(Ref { name, port: 0 })
+        match value.as_array() {
+            Some(items) => read_ref(alloc, items.as_slice()),
+            None => Ok(Ref {
+                name: Name::from_json(alloc, value)?,
+                port: 0,
+            }),
+        }
+    }
+}
+
+fn read_ref(alloc: Global, items: &[Value]) -> Result<Ref, BundleEnd>
+    ensures { Reads result (spec.ref_from (items_view items.now)) }
+{
+    match items {
+        [name, port] => Ok(Ref {
+            name: Name::from_json(alloc, name)?,
+            port: u32::from_json(alloc, port)?,
+        }),
+        _ => Err(UNSERVED),
     }
 }
 
 /// An object with `name`, `op` and the members of its op, and mostly `in`.
 impl FromJson for JobVertex {
-    ghost use Rattle.nemo_bundle.specs.Read.{vertex_of};
+    ghost use Rattle.nemo_bundle.specs.Vertices.{vertex_of};
 
     ghost reads = { vertex_of };
 
     fn from_json(alloc: Global, value: &Value) -> Result<JobVertex, BundleEnd> {
         let name: Name = read_member(alloc, value, "name")?;
         let inputs = read_inputs(alloc, value)?;
-        let transform = read_transform(alloc, &name, value)?;
+        let transform = read_transform(alloc, &name, inputs.len(), value)?;
         Ok(JobVertex {
             name,
             work: Work::Op(transform),
@@ -45,7 +65,7 @@ impl FromJson for JobVertex {
 
 /// The references of `in`, which may be absent.
 fn read_inputs(alloc: Global, value: &Value) -> Result<List<Ref>, BundleEnd>
-    ensures { Reads result (inputs_of (view value.now)) }
+    ensures { Reads result (spec.inputs_of (view value.now)) }
 {
     match value.get("in") {
         Some(inputs) => List::from_json(alloc, inputs),
@@ -53,27 +73,49 @@ fn read_inputs(alloc: Global, value: &Value) -> Result<List<Ref>, BundleEnd>
     }
 }
 
-/// The transform of a vertex of this name.
-fn read_transform(alloc: Global, name: &Name, value: &Value) -> Result<Transform, BundleEnd>
-    ensures { Reads result (transform_of name.now (view value.now)) }
+/// The transform of a vertex of this name and this many inputs.
+fn read_transform(
+    alloc: Global,
+    name: &Name,
+    inputs: usize,
+    value: &Value,
+) -> Result<Transform, BundleEnd>
+    ensures { Reads result (spec.transform_of name.now inputs (view value.now)) }
 {
     let op = value.get("op").and_then(Value::as_str).ok_or(UNSERVED)?;
-    read_transform_by(alloc, op, name, value)
+    read_transform_by(alloc, op, name, inputs, value)
 }
 
 fn read_transform_by(
     alloc: Global,
     op: &str,
     name: &Name,
+    inputs: usize,
     value: &Value,
 ) -> Result<Transform, BundleEnd>
-    ensures { Reads result (transform_by name.now (view value.now) op.now) }
+    ensures { Reads result (spec.transform_by name.now inputs (view value.now) op.now) }
 {
     match op {
         "source" => Ok(Transform::Source {
             rows: read_member(alloc, value, "rows")?,
         }),
-        "map" => read_map(alloc, value),
+        "map" => Ok(Transform::Map {
+            out: read_few(alloc, value, "out")?,
+        }),
+        "filter" => Ok(Transform::Filter {
+            cond: read_member(alloc, value, "if")?,
+        }),
+        "emit" => Ok(Transform::Emit {
+            outs: read_few(alloc, value, "outs")?,
+        }),
+        "words" => Ok(Transform::Words {
+            field: read_field(alloc, value)?,
+        }),
+        "union" => union_of(inputs),
+        "reduce" => read_reduce(alloc, value),
+        "distinct" => Ok(Transform::Distinct),
+        "join" => Ok(Transform::Join),
+        "sidejoin" => Ok(Transform::SideJoin),
         "sink" => Ok(Transform::Sink {
             name: name.copy(alloc)?,
         }),
@@ -81,13 +123,71 @@ fn read_transform_by(
     }
 }
 
-fn read_map(alloc: Global, value: &Value) -> Result<Transform, BundleEnd>
-    ensures { Reads result (map_of (view value.now)) }
+/// A union of this many ports. More than a `u32` counts are taken as more than memory holds.
+fn union_of(ports: usize) -> Result<Transform, BundleEnd>
+    ensures { Reads result (Some (Union ports)) }
 {
-    let out: List<Expr> = read_member(alloc, value, "out")?;
-    if 1 <= out.len() && out.len() <= MAX_OUT {
-        Ok(Transform::Map { out })
+    match u32::try_from(ports) {
+        Ok(ports) => Ok(Transform::Union { ports }),
+        Err(_) => Err(BundleEnd::NoMemory),
+    }
+}
+
+/// The 1 to 16 things of a member.
+fn read_few<T: FromJson>(alloc: Global, value: &Value, name: &str) -> Result<List<T>, BundleEnd>
+    ensures { Reads result (spec.few_of name.now T.reads (view value.now)) }
+{
+    let list: List<T> = read_member(alloc, value, name)?;
+    if 1 <= list.len() && list.len() <= MAX_OUT {
+        Ok(list)
     } else {
         Err(UNSERVED)
+    }
+}
+
+fn read_field(alloc: Global, value: &Value) -> Result<u32, BundleEnd>
+    ensures { Reads result (spec.own_place (view value.now)) }
+{
+    read_place(alloc, value.get("field").ok_or(UNSERVED)?)
+}
+
+fn read_reduce(alloc: Global, value: &Value) -> Result<Transform, BundleEnd>
+    ensures { Reads result (spec.reduce_of (view value.now)) }
+{
+    let by = value
+        .get("fn")
+        .and_then(Value::as_str)
+        .and_then(folding_of)
+        .ok_or(UNSERVED)?;
+    let field = match by {
+        Folding::Count => 0,
+        _ => read_field(alloc, value)?,
+    };
+    Ok(Transform::Reduce { by, field })
+}
+
+fn folding_of(word: &str) -> Option<Folding>
+    ensures { result ≡ spec.folding_of word.now }
+{
+    match word {
+        "sum" => Some(Folding::Sum),
+        "min" => Some(Folding::Min),
+        "max" => Some(Folding::Max),
+        "count" => Some(Folding::Count),
+        _ => None,
+    }
+}
+
+/// An object of an expression `if` and 1 to 16 expressions `out`.
+impl FromJson for Output {
+    ghost use Rattle.nemo_bundle.specs.Vertices.{output_of};
+
+    ghost reads = { output_of };
+
+    fn from_json(alloc: Global, value: &Value) -> Result<Output, BundleEnd> {
+        Ok(Output {
+            cond: read_member(alloc, value, "if")?,
+            out: read_few(alloc, value, "out")?,
+        })
     }
 }

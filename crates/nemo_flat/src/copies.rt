@@ -9,9 +9,9 @@ ghost use Rattle.nemo_job.specs.Chain.{is_built, names_of};
 ghost use Rattle.nemo_job.specs.Sinks.{job_faults, job_rows};
 
 use nemo_ir::{FlatJob, FlatVertex};
-use nemo_job::{Job, JobVertex, Work};
+use nemo_job::{Job, JobVertex, Work, path_of};
 use nemo_transform::Transform;
-use nemo_value::{List, Name, NoMemory, Text, TryCopy};
+use nemo_value::{List, Name, NoMemory, TryCopy};
 use std::alloc::Global;
 
 /// Why a job has no flat job: it has more than 512 copies, or memory ran out.
@@ -32,9 +32,10 @@ impl From<NoMemory> for FlattenRefused {
     }
 }
 
-/// The flat job of a job, whose sinks get what the job gives them. A job is a chain of at most 512 vertices for now, so
-/// its flat job is a line, and it never has too many copies; no fault reaches its sink.
+/// The flat job of a job, whose sinks get what the job gives them. For now the job has to be a chain of at most 512
+/// vertices, so its flat job is a line, and it never has too many copies; no fault reaches its sink.
 pub fn flatten(alloc: Global, job: &Job) -> Result<FlatJob, FlattenRefused>
+    requires { is_built job.now ≡ true }
     ensures flat { IfOk result (λ flat. flat ≡ flat_of job.now) }
     ensures line { IfOk result IsLine }
     ensures chain { IfOk result IsChainForm }
@@ -94,16 +95,6 @@ fn one_copy(alloc: Global, place: u32, name: &Name) -> Result<FlatVertex, NoMemo
         transform: place,
         inputs: one_before(alloc, place)?,
     })
-}
-
-/// A name as a path.
-fn path_of(alloc: Global, name: &Name) -> Result<Text, NoMemory>
-    ensures { IfOk result (λ path. path ≡ name.now) }
-{
-    match Text::new(String::from_str(alloc, name.as_str())?) {
-        Ok(path) => Ok(path),
-        Err(_) => unreachable!(),
-    }
 }
 
 /// The place before this one, if there is one.

@@ -1,6 +1,6 @@
 -- Chains: a source, maps and a sink, each fed by the one before it.
-use Rattle.std.specs.Prelude.{ℕ, ◌==◌, ◌&&◌, List, [], ◌∷◌, length, map, nat_le, not, Bool, true, false}
-use Rattle.std.specs.List.{list_all, list_any}
+use Rattle.std.specs.Prelude.{ℕ, ◌==◌, ◌&&◌, List, [], ◌∷◌, length, map, nat_le, Bool, true, false}
+use Rattle.std.specs.List.{list_all}
 use Rattle.nemo_value.specs.Texts.{same_text, all_new}
 use Rattle.nemo_value.specs.declared.expr.Expr.{Expr}
 use Rattle.nemo_value.specs.declared.expr.Expr.TheVariants.{Get, Const}

@@ -1,6 +1,13 @@
+pub mod ByPlace
 pub mod Chain
 pub mod ChainRows
 pub mod Ends
+pub mod Fitting
+pub mod Held
+pub mod Kept
 pub mod Mean
 pub mod Paths
+pub mod Places
+pub mod Readers
+pub mod Refusals
 pub mod Sinks

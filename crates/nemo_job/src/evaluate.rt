@@ -1,16 +1,22 @@
-ghost use Rattle.std.specs.Prelude.{◌≡◌, [], ◌∷◌, ◌++◌, true, IfOk, IfErr};
-ghost use Rattle.std.specs.List.{AllPass};
-ghost use Rattle.nemo_transform.specs.Gives.{answers, rows_in};
-ghost use Rattle.nemo_job.specs.Chain.{is_built, is_source, is_map, does_map};
-ghost use Rattle.nemo_job.specs.ChainRows.{rows_after, rows_through};
-ghost use Rattle.nemo_job.specs.Ends.{IsEndOf};
+ghost use Rattle.std.specs.Prelude.{◌≡◌, ◌<◌, [], length, map, option_map, true, IfOk, IfErr};
+ghost use Rattle.std.specs.Cow.{cow_slice_items};
+ghost use Rattle.nemo_value.specs.Order.{record_cmp};
+ghost use Rattle.nemo_value.specs.Sorting.{sorted};
+ghost use Rattle.nemo_value.specs.Texts.{all_new};
+ghost use Rattle.nemo_job.specs.ByPlace.{first_fault, values};
+ghost use Rattle.nemo_job.specs.Ends.{IsEndOf, by_path, fault_end};
+ghost use Rattle.nemo_job.specs.Held.{IsGiven, IsPlaced, arisen_at, faults_given, known, node_of, sinks_given};
+ghost use Rattle.nemo_job.specs.Sinks as spec;
 ghost use Rattle.nemo_job.specs.Sinks.{job_rows, job_faults};
 
+use crate::held::{Held, Located, earlier, nothing, step};
 use crate::job::Job;
-use crate::vertex::{JobVertex, Work};
-use nemo_transform::{Transform, apply};
-use nemo_value::{Kind, List, NoMemory, Record, SinkRows, Text, TryCopy, sort_records};
+use crate::places::{Node, last_readers, nodes_of};
+use crate::vertex::JobVertex;
+use nemo_transform::Transform;
+use nemo_value::{Kind, List, Name, NoMemory, Record, SinkRows, Text, TryCopy, sort_records};
 use std::alloc::Global;
+use std::borrow::CowSlice;
 
 /// Why a job has no rows: its first fault by the vertex where it arose, which is named by its path, and then by kind
 /// and record; or want of memory.
@@ -31,120 +37,107 @@ impl From<NoMemory> for JobEnd {
     }
 }
 
-/// What the job gives to its sinks: for each, by name, its rows in order, where no fault reaches a sink. In a chain
-/// none arises.
+/// What the job gives to its sinks: for each, by name, its rows in order, where no fault reaches a sink, and else the
+/// first fault that does. A vertex that reaches no sink isn't evaluated.
 pub fn eval_job(alloc: Global, job: &Job) -> Result<Vec<SinkRows>, JobEnd>
     ensures rows { IfOk result (λ sinks. sinks.items ≡ job_rows job.now) }
     ensures sound { IfOk result (λ sinks. job_faults job.now ≡ []) }
     ensures end { IfErr result (IsEndOf job.now) }
-    ensures faultless { IfErr result (λ e. e ≡ JobEnd.NoMemory) }
 {
-    let sink = eval_chain(alloc, job.vertices().as_slice())?;
-    Ok(one_sink(alloc, sink)?)
-}
-
-fn one_sink(alloc: Global, sink: SinkRows) -> Result<Vec<SinkRows>, NoMemory>
-    ensures { IfOk result (λ sinks. sinks.items ≡ sink ∷ []) }
-{
-    let mut sinks = Vec::with_capacity(alloc, 1)?;
-    sinks.push(sink)?;
-    Ok(sinks)
-}
-
-/// The rows of a chain's sink.
-fn eval_chain(alloc: Global, vertices: &[JobVertex]) -> Result<SinkRows, NoMemory>
-    requires { is_built vertices.now ≡ true }
-    ensures rows { IfOk result (λ sink. job_rows vertices.now ≡ sink ∷ []) }
-    ensures sound { IfOk result (λ sink. job_faults vertices.now ≡ []) }
-{
-    match vertices {
-        [source, maps @ .., last] => eval_sink(alloc, source, maps, last),
-        _ => unreachable!(),
+    let vertices = job.vertices().as_slice();
+    let nodes = nodes_of(alloc, vertices)?;
+    let held = all_held(alloc, nodes.as_slice())?;
+    let Ending { sinks, first } = collected(alloc, nodes.as_slice(), held)?;
+    match first {
+        Some(fault) => Err(end_at(alloc, vertices, fault)?),
+        None => Ok(by_name(sinks)),
     }
 }
 
-fn eval_sink(
-    alloc: Global,
-    source: &JobVertex,
-    maps: &[JobVertex],
-    last: &JobVertex,
-) -> Result<SinkRows, NoMemory>
-    requires { is_built (source.now ∷ (maps.now ++ last.now ∷ [])) ≡ true }
-    ensures rows { IfOk result (λ sink. job_rows (source.now ∷ (maps.now ++ last.now ∷ [])) ≡ sink ∷ []) }
-    ensures sound { IfOk result (λ sink. job_faults (source.now ∷ (maps.now ++ last.now ∷ [])) ≡ []) }
+/// The sinks by their names, which differ.
+fn by_name(mut sinks: Vec<SinkRows>) -> Vec<SinkRows>
+    requires { all_new [] (map (λ s. s.name) sinks.items) ≡ true }
+    ensures { result.items ≡ sorted spec.by_name sinks.items }
 {
-    let given = chain_rows(alloc, source_rows(&source.work), maps)?;
-    let rows = sort_records(alloc, given)?;
-    let name = last.name.copy(alloc)?;
-    Ok(SinkRows { name, rows })
+    sinks.sort_unstable_by(|a, b| a.name.as_str().cmp(b.name.as_str()));
+    sinks
 }
 
-/// The rows of a source.
-fn source_rows(work: &Work) -> &[Record]
-    requires { is_source work.now ≡ true }
-    ensures { result.now ≡ rows_after work.now [] }
+/// The end of a job by a fault.
+fn end_at(alloc: Global, vertices: &[JobVertex], fault: Located) -> Result<JobEnd, NoMemory>
+    requires { fault.place < length vertices.now }
+    ensures { IfOk result (λ end. end ≡ fault_end (by_path vertices.now (arisen_at fault))) }
 {
-    match work {
-        Work::Op(transform) => own_rows(transform),
-        Work::Loop { .. } => unreachable!(),
+    Ok(JobEnd::Fault {
+        name: path_of(alloc, &vertices[fault.place].name)?,
+        kind: fault.kind,
+        rec: fault.rec,
+    })
+}
+
+/// A name as the path of a vertex that stands in no loop.
+pub fn path_of(alloc: Global, name: &Name) -> Result<Text, NoMemory>
+    ensures { IfOk result (λ path. path ≡ name.now) }
+{
+    match Text::new(String::from_str(alloc, name.as_str())?) {
+        Ok(path) => Ok(path),
+        Err(_) => unreachable!(),
     }
 }
 
-#[tactic(auto, using(nemo_transform::proofs::MapSteps::passing))]
-fn own_rows(transform: &Transform) -> &[Record]
-    requires { is_source (Work.Op transform.now) ≡ true }
-    ensures { result.now ≡ rows_in (answers transform.now [] []) }
+/// What each vertex gave. The rows of the sinks are there.
+fn all_held<'a>(alloc: Global, nodes: &[Node<'a>]) -> Result<Vec<Held<'a>>, NoMemory>
+    requires { IsPlaced (map node_of nodes.now) }
+    ensures { IfOk result (λ held. IsGiven (map node_of nodes.now) (values (map node_of nodes.now)) (map known held.items)) }
 {
-    match transform {
-        Transform::Source { rows } => rows.as_slice(),
-        _ => unreachable!(),
+    let last = last_readers(alloc, nodes)?;
+    let mut held = Vec::with_capacity(alloc, nodes.len())?;
+    for (place, node) in nodes.iter().enumerate() {
+        if last[place].is_some() {
+            let given = step(alloc, place, node, last.as_slice(), &mut held)?;
+            held.push(given)?;
+        } else {
+            held.push(nothing())?;
+        }
     }
+    Ok(held)
 }
 
-/// How many rows go through the maps at a time, so that what stands between two maps stays small.
-const BATCH: usize = 32;
-
-/// The source's rows after all maps.
-fn chain_rows(
-    alloc: Global,
-    source: &[Record],
-    maps: &[JobVertex],
-) -> Result<List<Record>, NoMemory>
-    requires { AllPass does_map maps.now }
-    ensures { IfOk result (λ rows. rows ≡ rows_through maps.now source.now) }
-{
-    let mut rows = Vec::with_capacity(alloc, source.len())?;
-    let mut left = source;
-    while !left.is_empty() {
-        let (batch, others) = left.split_at(left.len().min(BATCH));
-        let given = batch_rows(alloc, batch, maps)?;
-        rows.append(&mut given.into_vec())?;
-        left = others;
-    }
-    Ok(List::from_vec(rows))
+/// What the sinks of a job got: their rows, in list order, and the first fault.
+#[derive(Drop)]
+struct Ending {
+    sinks: Vec<SinkRows>,
+    first: Option<Located>,
 }
 
-/// The rows of a batch after all maps. Of each layer of rows only the next is made from it, and then it is dropped.
-fn batch_rows(alloc: Global, batch: &[Record], maps: &[JobVertex]) -> Result<List<Record>, NoMemory>
-    requires { AllPass does_map maps.now }
-    ensures { IfOk result (λ rows. rows ≡ rows_through maps.now batch.now) }
+/// What the sinks got, their rows in order.
+fn collected(alloc: Global, nodes: &[Node<'_>], held: Vec<Held<'_>>) -> Result<Ending, NoMemory>
+    requires { IsGiven (map node_of nodes.now) (values (map node_of nodes.now)) (map known held.items) }
+    ensures sinks { IfOk result (λ e. e.sinks.items ≡ sinks_given (map node_of nodes.now) (values (map node_of nodes.now))) }
+    ensures first { IfOk result (λ e. option_map arisen_at e.first ≡ first_fault (faults_given (map node_of nodes.now) (values (map node_of nodes.now)))) }
 {
-    let Some((first, others)) = maps.split_first() else {
-        return List::from_slice(alloc, batch);
+    let mut sinks = Vec::new(alloc);
+    let mut first = None;
+    for (node, given) in nodes.iter().zip(held) {
+        if let Transform::Sink { name } = node.transform {
+            sinks.push(sink_rows(alloc, name, given.rows)?)?;
+            first = earlier(first, given.first);
+        }
+    }
+    Ok(Ending { sinks, first })
+}
+
+/// What a sink of a name got, its rows in order.
+fn sink_rows(alloc: Global, name: &Name, rows: CowSlice<'_, Record>) -> Result<SinkRows, NoMemory>
+    ensures name { IfOk result (λ sink. sink.name ≡ name.now) }
+    ensures rows { IfOk result (λ sink. sink.rows ≡ sorted record_cmp (cow_slice_items rows.entry)) }
+{
+    let rows = match rows {
+        CowSlice::Owned(rows) => List::from_vec(rows),
+        CowSlice::Borrowed(rows) => List::from_slice(alloc, rows)?,
     };
-    let mut rows = map_rows(alloc, &first.work, batch)?;
-    for v in others {
-        rows = map_rows(alloc, &v.work, rows.as_slice())?;
-    }
-    Ok(rows)
-}
-
-fn map_rows(alloc: Global, work: &Work, rows: &[Record]) -> Result<List<Record>, NoMemory>
-    requires { is_map work.now ≡ true }
-    ensures { IfOk result (λ given. given ≡ rows_after work.now rows.now) }
-{
-    match work {
-        Work::Op(transform) => Ok(apply(alloc, transform, rows, &[])?.rows),
-        Work::Loop { .. } => unreachable!(),
-    }
+    Ok(SinkRows {
+        name: name.copy(alloc)?,
+        rows: sort_records(alloc, rows)?,
+    })
 }

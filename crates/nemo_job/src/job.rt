@@ -1,21 +1,23 @@
 ghost use Rattle.std.specs.Prelude.{◌≡◌, true, IfOk, IfErr};
-ghost use Rattle.nemo_job.specs.Chain.{is_built};
-ghost use Rattle.nemo_job.specs.declared.job.JobRefused.{JobRefused};
+ghost use Rattle.nemo_job.specs.Fitting.{are_fitting};
+ghost use Rattle.nemo_job.specs.Refusals.{IsJob, IsRefused};
 
+use crate::refusals::look_at;
 use crate::vertex::JobVertex;
-use nemo_value::List;
+use nemo_value::{List, NoMemory};
+use std::alloc::Global;
 use std::marker::Model;
 
-/// A job: the list of its vertices, which for now are a chain. Contracts see the list.
+/// A job: the list of its vertices, of which nothing is refused. Contracts see the list.
 #[derive(Debug, Drop)]
 pub struct Job {
     vertices: List<JobVertex>,
 }
 
 impl Model for Job {
-    ghost use Rattle.std.specs.Prelude.{List, ◌≡◌, true};
+    ghost use Rattle.std.specs.Prelude.{List};
     ghost use Rattle.std.specs.Coded.{coded_list};
-    ghost use Rattle.nemo_job.specs.Chain.{is_built};
+    ghost use Rattle.nemo_job.specs.Refusals.{IsJob};
     ghost use Rattle.nemo_job.specs.contracts.vertex.JobVertex as vertex;
     ghost use Rattle.nemo_job.specs.declared.vertex.JobVertex.{JobVertex};
 
@@ -25,23 +27,38 @@ impl Model for Job {
 
     ghost view = { λ j. j.vertices };
 
-    ghost invariant = { λ j. is_built j.vertices ≡ true };
+    ghost invariant = { λ j. IsJob j.vertices };
 }
 
-/// Why vertices are no job: the code of the refusal, with the place that it names, or want of memory.
+/// Why vertices are no job: the code of the refusal, with the place of the vertex that it names, or want of memory.
 #[derive(Clone, Copy, Debug, PartialEq, Eq)]
 pub enum JobRefused {
     Refused { code: u32, place: u64 },
     NoMemory,
 }
 
+impl From<NoMemory> for JobRefused {
+    ghost use Rattle.nemo_job.specs.declared.job.JobRefused.TheVariants.{NoMemory};
+    ghost use Rattle.std.specs.Prelude.{◌≡◌};
+
+    ghost from_gives = { λ _ e. e ≡ NoMemory };
+
+    fn from(_e: NoMemory) -> JobRefused {
+        JobRefused::NoMemory
+    }
+}
+
 impl Job {
-    /// The vertices as a job. They have to be a chain, so nothing is refused.
-    pub fn new(vertices: Vec<JobVertex>) -> Result<Job, JobRefused>
-        requires { is_built vertices.items ≡ true }
+    /// The vertices as a job. Refused are, the first code that fails anywhere with its least place: a name that a
+    /// vertex before has (3), an input that names nothing, a sink, or a port that isn't there (4), an input that names
+    /// the vertex itself or a later one (5), another number of inputs than of ports (6), and no sink at all (8, at 0).
+    pub fn new(alloc: Global, vertices: Vec<JobVertex>) -> Result<Job, JobRefused>
+        requires { are_fitting vertices.items ≡ true }
         ensures ok { IfOk result (λ job. job ≡ vertices.items) }
-        ensures err { IfErr result (λ e. e ≡ JobRefused.NoMemory) }
+        ensures job { IfOk result IsJob }
+        ensures err { IfErr result (IsRefused vertices.items) }
     {
+        look_at(alloc, vertices.as_slice())?;
         Ok(Job {
             vertices: List::from_vec(vertices),
         })
@@ -50,7 +67,7 @@ impl Job {
     /// The vertices that the job was made of.
     pub fn vertices(&self) -> &List<JobVertex>
         ensures vertices { result.now ≡ self.now }
-        ensures built { is_built self.now ≡ true }
+        ensures job { IsJob self.now }
     {
         &self.vertices
     }

@@ -92,10 +92,6 @@ map_same_from f h k (suc n) e =
 pub map_same : {X : Type 0} (f h : ℕ → X) (n : ℕ) → ((j : ℕ) → j < n → f j ≡ h j) → map f (below n) ≡ map h (below n)
 map_same f h n e = map_same_from f h 0 n (from_zero n (λ j. f j ≡ h j) e)
 
-pub map_map : {X Y : Type 0} (f : X → Y) (h : ℕ → X) (ns : List ℕ) → map f (map h ns) ≡ map (λ j. f (h j)) ns
-map_map f h [] = refl
-map_map f h (n ∷ ns) = ap (λ xs. f (h n) ∷ xs) (map_map f h ns)
-
 map_at_from : {X Y : Type 0} (f : ℕ → X → Y) (h : ℕ → X) (k n : ℕ) → map_at f k (map h (counted k n)) ≡ map (λ j. f j (h j)) (counted k n)
 map_at_from f h k zero = refl
 map_at_from f h k (suc n) =

@@ -1,34 +1,16 @@
 -- Rows that are dealt out: each goes to one task.
-use Rattle.std.proofs.Common.{arith, ◌≡◌, ap, refl, ℕ, zero, suc, ◌+◌, ◌<◌, ◌≤◌, ◌==◌, List, [], ◌∷◌, ◌++◌, Bool, true, false, cond, inl, inr}
-use Rattle.std.proofs.lemmas.Bool.{cases_eq}
-use Rattle.std.proofs.lemmas.Bool.Decides.{nat_tests}
+use Rattle.std.proofs.Common.{arith, ◌≡◌, refl, ℕ, ◌+◌, ◌≤◌, ◌==◌, List, [], ◌∷◌, ◌++◌, Bool, true, false, cond}
 use Rattle.std.specs.Prelude.{◌%◌}
 use Rattle.std.specs.Cmp.{first_so, second_so}
 use Rattle.std.specs.Cmp.Derive.{both_true}
 use Rattle.std.specs.List.{flat_map, list_all}
 use Rattle.nemo_transform.specs.Gives.{Row, is_filled}
-use Rattle.nemo_ir.specs.Along.{below, counted}
+use Rattle.nemo_ir.specs.Along.{below}
 use Rattle.nemo_ir.specs.Part.{dealt}
 use Rattle.nemo_value.proofs.Perm.{Perm, then}
-use Rattle.nemo_laws.proofs.Permuted.{is, both, apart, flat_none, flat_same}
-
-module _ {A : Type 0} where
-  -- a number that is past isn't met
-  past : (x : A) (m k n : ℕ) → m < k → flat_map (λ i. cond (m == i) (x ∷ []) []) (counted k n) ≡ []
-  past x m k zero h = refl
-  past x m k (suc n) h = let e : (m == k) ≡ false = grind (arith, nat_tests) in rw e (past x m (suc k) n (omega arith))
-
-  -- and one that comes is met once
-  single : (x : A) (m k n : ℕ) → k ≤ m → m < k + n → flat_map (λ i. cond (m == i) (x ∷ []) []) (counted k n) ≡ x ∷ []
-  single x m k zero h g = absurd (omega arith)
-  single x m k (suc n) h g = elim (cases_eq m k) [
-    | inl e ↦ let t : (m == k) ≡ true = grind (arith, nat_tests) in rw t (ap (λ l. x ∷ l) (past x m (suc k) n (omega arith)))
-    | inr d ↦ let t : (m == k) ≡ false = grind (arith, nat_tests) in rw t (single x m (suc k) n (omega arith) (omega arith))
-  ]
-
-  in_front : (b : Bool) (x : A) (l : List A) → cond b (x ∷ l) l ≡ cond b (x ∷ []) [] ++ l
-  in_front true x l = refl
-  in_front false x l = refl
+use Rattle.nemo_value.proofs.JoinedLists.{flat_none, flat_same}
+use Rattle.nemo_value.proofs.Permuted.{is, both, apart}
+use Rattle.nemo_value.proofs.Split.{in_front, single}
 
 dealt_from : (n k : ℕ) (rows : List Row) → 1 ≤ n → Perm (flat_map (λ i. dealt n i k rows) (below n)) rows
 dealt_from n k [] h = is (flat_none (λ i. []) (below n) (λ i. refl))
@@ -36,7 +18,7 @@ dealt_from n k (r ∷ rows) h =
     let one : ℕ → List Row = λ i. cond (k % n == i) (r ∷ []) [] in
     let others : ℕ → List Row = λ i. dealt n i (k + 1) rows in
     let e = flat_same (λ i. dealt n i k (r ∷ rows)) (λ i. one i ++ others i) (below n) (λ i. in_front (k % n == i) r (others i)) in
-    then (is e) (then (apart one others (below n)) (both (is (single r (k % n) 0 n (omega arith) (omega arith))) (dealt_from n (k + 1) rows h)))
+    then (is e) (then (apart one others (below n)) (both (is (single r (k % n) n (omega arith))) (dealt_from n (k + 1) rows h)))
 
 -- each row is dealt to one task
 pub dealt_all : (n : ℕ) (rows : List Row) → 1 ≤ n → Perm (flat_map (λ i. dealt n i 0 rows) (below n)) rows

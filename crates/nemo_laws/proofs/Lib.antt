@@ -1,10 +1,10 @@
+pub mod Batches
 pub mod Commits
 pub mod Counted
 pub mod Dealt
 pub mod Launches
 pub mod Logs
 pub mod LossesKept
-pub mod Permuted
 pub mod Refusals
 pub mod Rows
 pub mod SinkRows

@@ -19,14 +19,15 @@ use Rattle.nemo_job.specs.Sinks.{job_rows}
 use Rattle.nemo_job.specs.declared.vertex.JobVertex.{JobVertex}
 use Rattle.nemo_job.specs.declared.vertex.Work.{Work}
 use Rattle.nemo_job.specs.declared.vertex.Work.TheVariants.{Op}
-use Rattle.nemo_job.proofs.Batches.{through_apart, through_none}
 use Rattle.nemo_job.proofs.ChainMean.{chain_rows, middle, parts}
 use Rattle.nemo_flat.specs.Flat.{flat_of}
 use Rattle.nemo_flat.proofs.ChainFlat.{chain_is, end_op, source_op, table, table_more}
 use Rattle.nemo_flat.proofs.ChainValue.{link_of, split, table_last}
 use Rattle.nemo_laws.specs.Solo.{task_rows}
+use Rattle.nemo_laws.proofs.Batches.{through_apart, through_none}
 use Rattle.nemo_laws.proofs.Dealt.{dealt_all}
-use Rattle.nemo_laws.proofs.Permuted.{chosen, flat_same, is, mapped}
+use Rattle.nemo_value.proofs.JoinedLists.{flat_same}
+use Rattle.nemo_value.proofs.Permuted.{chosen, is, mapped}
 
 ---- one task
 

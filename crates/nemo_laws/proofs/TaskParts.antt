@@ -24,7 +24,8 @@ use Rattle.nemo_plan.specs.LinePlan.{IsLinePlan, line_feeds, line_node}
 use Rattle.nemo_laws.specs.Data.{Given, task_gives}
 use Rattle.nemo_laws.specs.Done.{plan_of}
 use Rattle.nemo_laws.specs.Solo.{first_stage, task_rows}
-use Rattle.nemo_laws.proofs.Permuted.{flat_same, is}
+use Rattle.nemo_value.proofs.JoinedLists.{flat_same}
+use Rattle.nemo_value.proofs.Permuted.{is}
 use Rattle.nemo_laws.proofs.Rows.{chain_long, chain_moves}
 use Rattle.nemo_laws.proofs.Tasks.{comes, counts_of, does, node_at, task_has, work_of}
 

@@ -5,7 +5,6 @@
 mod calls;
 mod parts;
 mod report;
-mod transforms;
 mod values;
 
 use nemo_io::{StdSource, read_to_end};

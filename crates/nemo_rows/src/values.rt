@@ -1,12 +1,6 @@
-ghost use Rattle.std.specs.Prelude.{IfOk, IsTrue};
-ghost use Rattle.nemo_transform.specs.Soundness.{is_sound};
-
 use crate::parts::{bytes_of, number, text};
-use crate::transforms::transform_row;
-use nemo_transform::{Transform, apply, ports};
 use nemo_value::{
-    Boxed, EvalFault, Expr, Field, List, Name, NoMemory, Oper, Record, Same, Text, TryCopy,
-    bucket_of, eval,
+    Boxed, EvalFault, Expr, Field, List, Name, NoMemory, Oper, Record, Text, bucket_of, eval,
 };
 use serde_json::Value;
 use std::alloc::Global;
@@ -27,9 +21,6 @@ fn value_of(alloc: Global, row: &Value) -> Result<Vec<u8>, NoMemory> {
         "record" => record_of(alloc, row),
         "bucket" => bucket(alloc, row),
         "eval" => eval_of(alloc, row),
-        "copy" => copy_of(alloc),
-        "apply" => apply_of(alloc, row),
-        "transform" => transform_row(alloc, row),
         _ => Ok(Vec::new(alloc)),
     }
 }
@@ -136,28 +127,6 @@ fn answer(alloc: Global, value: Result<Field, EvalFault>) -> Result<Vec<u8>, NoM
     Ok(text.into_bytes())
 }
 
-/// A map that divides 6 by the first field.
-fn six_over_first(alloc: Global) -> Result<Transform, NoMemory>
-    ensures { IfOk result (λ map. IsTrue (is_sound map)) }
-{
-    let six = Boxed::new(alloc, Expr::Const(Field::Int(6)))?;
-    let first = Boxed::new(alloc, Expr::Get(0))?;
-    let mut out = List::new(alloc);
-    out.push(Expr::Pair(Oper::Div, six, first))?;
-    Ok(Transform::Map { out })
-}
-
-fn copy_of(alloc: Global) -> Result<Vec<u8>, NoMemory> {
-    let map = six_over_first(alloc)?;
-    let copy = map.copy(alloc)?;
-    let line = if map.same(&copy) {
-        "the same"
-    } else {
-        "different"
-    };
-    Ok(line.as_bytes().to_vec(alloc)?)
-}
-
 fn record_with(alloc: Global, n: i64) -> Result<Record, NoMemory> {
     let mut fields = List::new(alloc);
     fields.push(Field::Int(n))?;
@@ -165,24 +134,4 @@ fn record_with(alloc: Global, n: i64) -> Result<Record, NoMemory> {
         Ok(rec) => Ok(rec),
         Err(_) => Err(NoMemory),
     }
-}
-
-fn records_of(alloc: Global, row: &Value) -> Result<List<Record>, NoMemory> {
-    let mut rows = List::new(alloc);
-    if let Some(numbers) = row.get("rows").and_then(Value::as_array) {
-        for n in numbers {
-            rows.push(record_with(alloc, n.as_i64().unwrap_or(0))?)?;
-        }
-    }
-    Ok(rows)
-}
-
-/// How many rows and faults the map gives on the row's numbers, as records of one field, and how many ports it has.
-fn apply_of(alloc: Global, row: &Value) -> Result<Vec<u8>, NoMemory> {
-    let rows = records_of(alloc, row)?;
-    let map = six_over_first(alloc)?;
-    let applied = apply(alloc, &map, rows.as_slice(), &[])?;
-    let (rows, faults) = (applied.rows.len(), applied.faults.len());
-    let line = format!(in alloc; "rows {rows} faults {faults} ports {}", ports(&map).main)?;
-    Ok(line.into_bytes())
 }

@@ -3,16 +3,15 @@ use Rattle.std.proofs.Common.{◌≡◌, ◌∙◌, ap, sym, subst, ℕ, ◌-◌
 use Rattle.std.specs.Prelude.{IfSome}
 use Rattle.std.specs.Io.KnownBytes.{Consumes, IsAtEnd}
 use Rattle.serde_json.specs.Data.{Data}
-use Rattle.nemo_bundle.specs.Read.{bundle_of}
 use Rattle.nemo_bundle.specs.declared.bundle.Bundle.{Bundle}
 use Rattle.nemo_core.specs.declared.event.Event.{Event}
 use Rattle.nemo_job.specs.Sinks.{job_rows}
 use Rattle.nemo_report.specs.Texts.{sinks_text}
 use Rattle.nemo_io.specs.Told.{IfTold}
-use Rattle.nemo_top.specs.Outcome.{Answers, IsBundle, IsDagRefused, IsDone, IsDoneLog, IsDoneText, IsJson, LeadsTo, dag_of, done_text}
+use Rattle.nemo_top.specs.Outcome.{Answers, IsBundle, IsDagRefused, IsDone, IsDoneLog, IsDoneText, IsFaulty, IsJson, LeadsTo, bundle_for, dag_of, done_text}
 use Rattle.nemo_top.specs.Words.{command_of, is_command}
 use Rattle.nemo_top.specs.declared.status.Status.{Status}
-use Rattle.nemo_top.specs.declared.status.Status.TheVariants.{Done, NotJson, BundleRefused, DagRefused, NoMemory}
+use Rattle.nemo_top.specs.declared.status.Status.TheVariants.{Done, NotJson, BundleRefused, DagRefused, TransformFault, NoMemory}
 use Rattle.nemo_top.specs.declared.word.Command.{Command}
 use Rattle.nemo_top.specs.declared.word.Command.TheVariants.{Eval, Check, Solo}
 
@@ -56,19 +55,24 @@ pub answers_read : (words : List (List ℕ)) (command : Command) (before after :
     → command_of words ≡ Some command → now ≡ faults → Consumes before after bytes → IsAtEnd after → length bytes ≤ 33554432 → LeadsTo command bytes status log text
     → Answers (record { words = words; before = before; after = after; faults_before = faults; faults_after = now }) status log text
 answers_read words command before after faults now bytes Done log text asked kept taken at_end short leads = (
-  (command, asked, kept, few before after bytes taken at_end short, told before after bytes (λ all. (b : Bundle) × IsBundle all b × IsDone command b log) taken at_end (leads.0, leads.1, leads.2)),
+  (command, asked, kept, few before after bytes taken at_end short, told before after bytes (λ all. (b : Bundle) × IsBundle command all b × IsDone command b log) taken at_end (leads.0, leads.1, leads.2)),
   (command, asked, done_logged command leads.0 log leads.2),
-  (command, asked, done_known command leads.0 text leads.3, known before after bytes (λ all. (b : Bundle) × IsBundle all b × (text ≡ done_text command b)) taken at_end (leads.0, leads.1, leads.3)),
+  (command, asked, done_known command leads.0 text leads.3, known before after bytes (λ all. (b : Bundle) × IsBundle command all b × (text ≡ done_text command b)) taken at_end (leads.0, leads.1, leads.3)),
 )
 answers_read words command before after faults now bytes NotJson log text asked kept taken at_end short leads =
     ((is_asked words command asked, kept, few before after bytes taken at_end short, told before after bytes (λ all. (d : Data) → ¬ IsJson all d) taken at_end leads.1), leads.0, leads.2)
 answers_read words command before after faults now bytes (BundleRefused code place) log text asked kept taken at_end short leads = (
-  (is_asked words command asked, kept, few before after bytes taken at_end short, told before after bytes (λ all. (d : Data) × IsJson all d × (bundle_of d ≡ Err (record { code = code; place = place }))) taken at_end (leads.1, leads.2, leads.3)),
+  (command, asked, kept, few before after bytes taken at_end short, told before after bytes (λ all. (d : Data) × IsJson all d × (bundle_for command d ≡ Err (record { code = code; place = place }))) taken at_end (leads.1, leads.2, leads.3)),
   leads.0,
   leads.4,
 )
 answers_read words command before after faults now bytes (DagRefused clause index) log text asked kept taken at_end short leads = (
-  (command, asked, kept, few before after bytes taken at_end short, told before after bytes (λ all. (b : Bundle) × IsBundle all b × IsDagRefused command b clause index) taken at_end (leads.1, leads.2, leads.3)),
+  (command, asked, kept, few before after bytes taken at_end short, told before after bytes (λ all. (b : Bundle) × IsBundle command all b × IsDagRefused command b clause index) taken at_end (leads.1, leads.2, leads.3)),
+  leads.0,
+  leads.4,
+)
+answers_read words command before after faults now bytes (TransformFault name kind rec) log text asked kept taken at_end short leads = (
+  (command, asked, kept, few before after bytes taken at_end short, told before after bytes (λ all. (b : Bundle) × IsBundle command all b × IsFaulty command b name kind rec) taken at_end (leads.1, leads.2, leads.3)),
   leads.0,
   leads.4,
 )

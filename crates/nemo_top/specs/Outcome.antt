@@ -1,10 +1,14 @@
 -- What a call answers, and why.
-use Rattle.std.specs.Prelude.{◌≡◌, ◌<◌, ◌≤◌, ◌-◌, ℕ, List, [], ◌∷◌, ◌++◌, length, true, false, Option, Some, None, IfSome, IsUtf8, Ok, Err, unwrap_or}
+use Rattle.std.specs.Prelude.{◌≡◌, ◌<◌, ◌≤◌, ◌-◌, ℕ, List, [], ◌∷◌, ◌++◌, length, true, false, Option, Some, None, IfSome, IsUtf8, Result, Ok, Err, unwrap_or, slice_get, if◌then◌else◌}
 use Rattle.serde_json.specs.Data.{Data}
 use Rattle.serde_json.specs.Read.{read}
 use Rattle.nemo_io.specs.Faults.{Rose}
 use Rattle.nemo_io.specs.Told.{IfTold}
+use Rattle.nemo_job.specs.Chain.{is_built, is_chain}
 use Rattle.nemo_job.specs.Sinks.{job_faults, job_rows}
+use Rattle.nemo_transform.specs.Gives.{Row}
+use Rattle.nemo_value.specs.declared.expr.Kind.{Kind}
+use Rattle.nemo_bundle.specs.Answers.{Refusal, unserved}
 use Rattle.nemo_bundle.specs.Read.{bundle_of}
 use Rattle.nemo_bundle.specs.declared.bundle.Bundle.{Bundle}
 use Rattle.nemo_flat.specs.Flat.{flat_of}
@@ -25,7 +29,7 @@ use Rattle.nemo_top.specs.Words.{command_of, is_command}
 use Rattle.nemo_top.specs.declared.word.Command.{Command}
 use Rattle.nemo_top.specs.declared.word.Command.TheVariants.{Eval, Check, Solo}
 use Rattle.nemo_top.specs.declared.status.Status.{Status}
-use Rattle.nemo_top.specs.declared.status.Status.TheVariants.{Done, Usage, ReadFault, WriteFault, NotJson, TooLong, BundleRefused, DagRefused, NoMemory}
+use Rattle.nemo_top.specs.declared.status.Status.TheVariants.{Done, Usage, ReadFault, WriteFault, NotJson, TooLong, BundleRefused, DagRefused, TransformFault, NoMemory}
 
 -- a call as it is seen from outside: its words, and the source before and after it, its content where that is told, and the count of its faults
 pub record Call : Type 0 where
@@ -42,9 +46,26 @@ call_of words before after faults now = record { words = words; before = before;
 abbrev pub IsJson : List ℕ → Data → Type 0
 IsJson bytes d = IsUtf8 bytes × (read bytes ≡ Some d)
 
--- the bytes are this bundle
-abbrev pub IsBundle : List ℕ → Bundle → Type 0
-IsBundle bytes b = (d : Data) × IsJson bytes d × (bundle_of d ≡ Ok b)
+-- a bundle whose job is a chain; no other is served
+abbrev pub chained : Result Bundle Refusal → Result Bundle Refusal
+chained (Ok b) = if is_chain b.job then Ok b else Err unserved
+chained (Err r) = Err r
+
+-- the bundle that a command reads: `check` and `solo` serve chains for now
+abbrev pub bundle_for : Command → Data → Result Bundle Refusal
+bundle_for Eval d = bundle_of d
+bundle_for Check d = chained (bundle_of d)
+bundle_for Solo d = chained (bundle_of d)
+
+-- what a command needs of a bundle that it serves
+abbrev pub IsServed : Command → Bundle → Type 0
+IsServed Eval b = Unit {0}
+IsServed Check b = is_built b.job ≡ true
+IsServed Solo b = is_built b.job ≡ true
+
+-- the bytes are this bundle of a command
+abbrev pub IsBundle : Command → List ℕ → Bundle → Type 0
+IsBundle command bytes b = (d : Data) × IsJson bytes d × (bundle_for command d ≡ Ok b)
 
 -- the words are a command
 abbrev pub Commands : Call → Type 0
@@ -109,6 +130,12 @@ abbrev pub FailsFirst : FlatForm → Option IrDag → ℕ → ℕ → Type 0
 FailsFirst flat (Some dag) clause index = FirstFailure flat dag clause index
 FailsFirst flat None clause index = ⊥
 
+-- the first fault of the job is this one; only `eval` serves jobs in which one can arise
+abbrev pub IsFaulty : Command → Bundle → List ℕ → Kind → Row → Type 0
+IsFaulty Eval b name kind rec = slice_get (job_faults b.job) 0 ≡ Some (record { vertex = name; kind = kind; rec = rec })
+IsFaulty Check b name kind rec = ⊥
+IsFaulty Solo b name kind rec = ⊥
+
 -- `eval` doesn't look at it
 abbrev pub IsDagRefused : Command → Bundle → ℕ → ℕ → Type 0
 IsDagRefused Eval b clause index = ⊥
@@ -117,7 +144,7 @@ IsDagRefused Solo b clause index = FailsFirst (flat_of b.job) b.dag clause index
 
 -- the words are this command, and the content is a bundle of which P holds for it
 abbrev pub Finds : Call → (Command → Bundle → Type 0) → Type 0
-Finds call P = (command : Command) × (command_of call.words ≡ Some command) × ReadsWell call × TakesFew call × ReadsAll call (λ all. (b : Bundle) × IsBundle all b × P command b)
+Finds call P = (command : Command) × (command_of call.words ≡ Some command) × ReadsWell call × TakesFew call × ReadsAll call (λ all. (b : Bundle) × IsBundle command all b × P command b)
 
 -- why a call answers a status, with a history, where no write fails
 abbrev pub HasCause : Call → Status → List Event → Type 0
@@ -127,9 +154,10 @@ HasCause call ReadFault log = Commands call × Rose call.faults_before call.faul
 HasCause call WriteFault log = ⊥
 HasCause call NotJson log = Commands call × ReadsWell call × TakesFew call × ReadsAll call (λ all. (d : Data) → ¬ IsJson all d)
 HasCause call TooLong log = Commands call × ReadsWell call × TakesMany call
-HasCause call (BundleRefused code place) log = Commands call × ReadsWell call × TakesFew call
-    × ReadsAll call (λ all. (d : Data) × IsJson all d × (bundle_of d ≡ Err (record { code = code; place = place })))
+HasCause call (BundleRefused code place) log = (command : Command) × (command_of call.words ≡ Some command) × ReadsWell call × TakesFew call
+    × ReadsAll call (λ all. (d : Data) × IsJson all d × (bundle_for command d ≡ Err (record { code = code; place = place })))
 HasCause call (DagRefused clause index) log = Finds call (λ command b. IsDagRefused command b clause index)
+HasCause call (TransformFault name kind rec) log = Finds call (λ command b. IsFaulty command b name kind rec)
 HasCause call NoMemory log = Commands call × ReadsWell call × TakesFew call
 
 -- the history of a command that is done: that of a run ends in Finish, and nothing else has one
@@ -146,7 +174,7 @@ HasLog call status log = log ≡ []
 -- the text of a status
 abbrev pub IsOutput : Call → Status → List ℕ → Type 0
 IsOutput call Done text = (command : Command) × (command_of call.words ≡ Some command) × IsDoneText command text
-    × IfSome call.before (λ all. (b : Bundle) × IsBundle all b × (text ≡ done_text command b))
+    × IfSome call.before (λ all. (b : Bundle) × IsBundle command all b × (text ≡ done_text command b))
 IsOutput call status text = text ≡ last_line status
 
 -- a status with its cause and its history, and its text
@@ -202,6 +230,7 @@ IsSized dag _ text = ⊥
 abbrev pub Runs : Command → Bundle → Status → List Event → List ℕ → Type 0
 Runs command b Done log text = IsDone command b log × (text ≡ done_text command b)
 Runs command b (DagRefused clause index) log text = (log ≡ []) × IsDagRefused command b clause index × (text ≡ last_line (DagRefused clause index))
+Runs command b (TransformFault name kind rec) log text = (log ≡ []) × IsFaulty command b name kind rec × (text ≡ last_line (TransformFault name kind rec))
 Runs command b NoMemory log text = (log ≡ []) × (text ≡ last_line NoMemory)
 Runs command b _ log text = ⊥
 
@@ -213,9 +242,10 @@ Refuses c p _ text = ⊥
 
 -- what content that was read to its end leads to
 abbrev pub LeadsTo : Command → List ℕ → Status → List Event → List ℕ → Type 0
-LeadsTo command all Done log text = (b : Bundle) × IsBundle all b × IsDone command b log × (text ≡ done_text command b)
+LeadsTo command all Done log text = (b : Bundle) × IsBundle command all b × IsDone command b log × (text ≡ done_text command b)
 LeadsTo command all NotJson log text = (log ≡ []) × ((d : Data) → ¬ IsJson all d) × (text ≡ last_line NotJson)
-LeadsTo command all (BundleRefused code place) log text = (log ≡ []) × (d : Data) × IsJson all d × (bundle_of d ≡ Err (record { code = code; place = place })) × (text ≡ last_line (BundleRefused code place))
-LeadsTo command all (DagRefused clause index) log text = (log ≡ []) × (b : Bundle) × IsBundle all b × IsDagRefused command b clause index × (text ≡ last_line (DagRefused clause index))
+LeadsTo command all (BundleRefused code place) log text = (log ≡ []) × (d : Data) × IsJson all d × (bundle_for command d ≡ Err (record { code = code; place = place })) × (text ≡ last_line (BundleRefused code place))
+LeadsTo command all (DagRefused clause index) log text = (log ≡ []) × (b : Bundle) × IsBundle command all b × IsDagRefused command b clause index × (text ≡ last_line (DagRefused clause index))
+LeadsTo command all (TransformFault name kind rec) log text = (log ≡ []) × (b : Bundle) × IsBundle command all b × IsFaulty command b name kind rec × (text ≡ last_line (TransformFault name kind rec))
 LeadsTo command all NoMemory log text = (log ≡ []) × (text ≡ last_line NoMemory)
 LeadsTo command all _ log text = ⊥

@@ -1,7 +1,8 @@
 -- The statuses: their numbers and their last lines.
 use Rattle.std.specs.Prelude.{ℕ, List, [], ◌∷◌, ◌++◌, codes, decimal, Bool, true, false}
+use Rattle.nemo_report.specs.Texts.{fault_line}
 use Rattle.nemo_top.specs.declared.status.Status.{Status}
-use Rattle.nemo_top.specs.declared.status.Status.TheVariants.{Done, Usage, ReadFault, WriteFault, NotJson, TooLong, BundleRefused, DagRefused, NoMemory}
+use Rattle.nemo_top.specs.declared.status.Status.TheVariants.{Done, Usage, ReadFault, WriteFault, NotJson, TooLong, BundleRefused, DagRefused, TransformFault, NoMemory}
 
 abbrev pub number_of : Status → ℕ
 number_of Done = 0
@@ -12,6 +13,7 @@ number_of NotJson = 5
 number_of TooLong = 6
 number_of (BundleRefused code place) = 7
 number_of (DagRefused clause index) = 8
+number_of (TransformFault name kind rec) = 9
 number_of NoMemory = 13
 
 -- after a failed write there is none, and that of a check that accepts is not this one
@@ -24,6 +26,7 @@ last_line NotJson = codes "not json\n"
 last_line TooLong = codes "too long\n"
 last_line (BundleRefused code place) = codes "bundle refused " ++ decimal code ++ 32 ∷ [] ++ decimal place ++ 10 ∷ []
 last_line (DagRefused clause index) = codes "dag refused V" ++ decimal clause ++ 32 ∷ [] ++ decimal index ++ 10 ∷ []
+last_line (TransformFault name kind rec) = fault_line name kind rec
 last_line NoMemory = codes "no memory\n"
 
 -- the line of a check that accepts a DAG of n vertices and m edges

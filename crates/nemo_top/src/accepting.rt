@@ -1,6 +1,7 @@
-ghost use Rattle.std.specs.Prelude.{◌≡◌, ◌≤◌, []};
+ghost use Rattle.std.specs.Prelude.{◌≡◌, ◌≤◌, [], true};
 ghost use Rattle.std.specs.Cow.{cow_slice_items};
 ghost use Rattle.nemo_ir.specs.Line.{IsLine};
+ghost use Rattle.nemo_job.specs.Chain.{is_built};
 ghost use Rattle.nemo_policy.specs.Passes.{plain_dag};
 ghost use Rattle.nemo_top.specs.Outcome.{Accepts, Checks, IsRefusedDag, IsSized, Runs};
 ghost use Rattle.nemo_top.specs.declared.word.Command.{Command};
@@ -20,6 +21,7 @@ use std::alloc::Global;
 pub(crate) fn check_bundle(alloc: Global, bundle: &Bundle) -> Reached
     requires some { 1 ≤ bundle.now.parallelism }
     requires few { bundle.now.parallelism ≤ 64 }
+    requires chain { is_built bundle.now.job ≡ true }
     ensures { Runs Command.Check bundle.now result.status result.log (cow_slice_items result.text) }
 {
     let Ok(flat) = flatten(alloc, &bundle.job) else {

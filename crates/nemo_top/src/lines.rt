@@ -23,10 +23,11 @@ pub(crate) fn with_line(alloc: Global, status: Status) -> Reached
     ensures log { result.log ≡ [] }
     ensures line { cow_slice_items result.text ≡ last_line status }
 {
+    let line = line_of(&status);
     Reached {
         status,
         log: List::new(alloc),
-        text: CowSlice::Borrowed(line_of(&status)),
+        text: CowSlice::Borrowed(line),
     }
 }
 

@@ -5,6 +5,7 @@ ghost use Rattle.nemo_io.specs.Told.{AppendsPart};
 ghost use Rattle.nemo_top.specs.Outcome.{Answers, call_of};
 ghost use Rattle.nemo_top.specs.declared.status.Status.{Status};
 
+use crate::lines::Reached;
 use crate::reach::reach;
 use crate::status::{Ended, Status};
 use crate::word::Word;
@@ -12,9 +13,10 @@ use nemo_io::{Failed, Sink, Source, write_all};
 use std::alloc::Global;
 
 /// Serves the command that the words name, from the source to the sink: `eval` reads a bundle, evaluates its job and
-/// writes the sinks; `check` says whether its DAG computes its job; `solo` runs the DAG as tasks on one thread and
-/// writes the sinks. Causes are looked at in the order words, reading, JSON, bundle, DAG, run. The text of the status
-/// is then written; where that fails, the status is WriteFault, a part of the text was given, and the history stays.
+/// writes the sinks, or the first fault that reaches one; `check` says whether its DAG computes its job; `solo` runs
+/// the DAG as tasks on one thread and writes the sinks. `check` and `solo` serve chains alone for now. Causes are looked
+/// at in the order words, reading, JSON, bundle, DAG, run. The text of the status is then written; where that fails, the
+/// status is WriteFault, a part of the text was given, and the history stays.
 pub fn nemo_plain<S: Source, K: Sink>(
     alloc: Global,
     words: &[Word],
@@ -32,13 +34,10 @@ pub fn nemo_plain<S: Source, K: Sink>(
         result.status ≡ Status.WriteFault → (reached : Status) × (text : List ℕ) × Answers call reached result.log text × AppendsPart (K.given sink.old) (K.given sink.new) text }
     ensures write_fault { result.status ≡ Status.WriteFault → Rose (K.faults sink.old) (K.faults sink.new) }
 {
-    let reached = reach(alloc, words, source);
-    let status = match write_all(sink, reached.text.as_slice()) {
-        Ok(()) => reached.status,
+    let Reached { status, log, text } = reach(alloc, words, source);
+    let status = match write_all(sink, text.as_slice()) {
+        Ok(()) => status,
         Err(Failed) => Status::WriteFault,
     };
-    Ended {
-        status,
-        log: reached.log,
-    }
+    Ended { status, log }
 }

@@ -1,23 +1,24 @@
-ghost use Rattle.std.specs.Prelude.{◌≡◌, ◌≤◌, ◌++◌, [], true, IfOk, IfErr, IfSome, codes};
+ghost use Rattle.std.specs.Prelude.{◌≡◌, ◌≤◌, [], true, IfOk, IfErr, IfSome, Ok};
+ghost use Rattle.std.specs.List.{list_all};
 ghost use Rattle.std.specs.Cow.{cow_slice_items};
 ghost use Rattle.serde_json.specs.View.{view};
 ghost use Rattle.serde_json.specs.Data.{Data};
 ghost use Rattle.nemo_bundle.specs.Answers.{Gives};
-ghost use Rattle.nemo_bundle.specs.Read.{bundle_of};
 ghost use Rattle.nemo_ir.specs.Uniform.{is_uniform};
-ghost use Rattle.nemo_job.specs.Sinks.{job_faults, job_rows};
-ghost use Rattle.nemo_report.specs.Texts.{sinks_text};
-ghost use Rattle.nemo_top.specs.Outcome.{Answers, call_of, IsJson, LeadsTo, Refuses, Runs};
+ghost use Rattle.nemo_job.specs.Chain.{has_fields, is_built};
+ghost use Rattle.nemo_top.specs.Outcome.{Answers, bundle_for, call_of, IsJson, IsServed, LeadsTo, Refuses, Runs};
+ghost use Rattle.nemo_top.specs.Outcome as spec;
+ghost use Rattle.nemo_top.specs.declared.word.Command.{Command};
 
 use crate::accepting::check_bundle;
 use crate::lines::{Reached, numbered_line, with_line, with_text};
 use crate::running::run_bundle;
 use crate::status::Status;
 use crate::word::{Command, Word, command_of};
-use nemo_bundle::{Bundle, BundleEnd, read_bundle};
+use nemo_bundle::{Bundle, BundleEnd, UNSERVED, read_bundle};
 use nemo_io::{ReadRefused, Source, read_to_end};
-use nemo_job::{Job, JobEnd, eval_job};
-use nemo_report::sink_text;
+use nemo_job::{JobEnd, eval_job, is_chain};
+use nemo_report::{fault_text, sink_text};
 use nemo_value::{List, NoMemory};
 use serde_json::Value;
 use std::alloc::Global;
@@ -43,7 +44,7 @@ fn evaluate(alloc: Global, command: Command, bytes: Vec<u8>) -> Reached
     ensures { LeadsTo command bytes.items result.status result.log (cow_slice_items result.text) }
 {
     match parse(alloc, bytes) {
-        Ok(value) => match read(alloc, value) {
+        Ok(value) => match read(alloc, command, value) {
             Ok(bundle) => run(alloc, command, &bundle),
             Err(BundleEnd::Refused { code, place }) => refuse(alloc, code, place),
             Err(BundleEnd::NoMemory) => with_line(alloc, Status::NoMemory),
@@ -74,18 +75,39 @@ fn parse(alloc: Global, bytes: Vec<u8>) -> Result<Value, ParseEnd>
     }
 }
 
-fn read(alloc: Global, value: Value) -> Result<Bundle, BundleEnd>
-    ensures bundle { Gives result (bundle_of (view value)) }
+/// The bundle that a command reads, of which `check` and `solo` serve chains alone for now.
+fn read(alloc: Global, command: Command, value: Value) -> Result<Bundle, BundleEnd>
+    ensures bundle { Gives result (bundle_for command (view value)) }
     ensures tasks { IfOk result (λ b. (1 ≤ b.parallelism) × (b.parallelism ≤ 64)) }
+    ensures chain { IfOk result (IsServed command) }
     ensures uniform { IfOk result (λ b. IfSome b.dag (λ dag. is_uniform dag ≡ true)) }
 {
-    read_bundle(alloc, &value)
+    let bundle = read_bundle(alloc, &value)?;
+    match command {
+        Command::Eval => Ok(bundle),
+        Command::Check | Command::Solo => chained(alloc, bundle),
+    }
+}
+
+/// The bundle, where its job is a chain.
+fn chained(alloc: Global, bundle: Bundle) -> Result<Bundle, BundleEnd>
+    requires { list_all has_fields bundle.job ≡ true }
+    ensures bundle { Gives result (spec.chained (Ok bundle)) }
+    ensures same { IfOk result (λ b. b ≡ bundle) }
+    ensures chain { IfOk result (λ b. is_built b.job ≡ true) }
+{
+    if is_chain(alloc, bundle.job.vertices().as_slice())? {
+        Ok(bundle)
+    } else {
+        Err(UNSERVED)
+    }
 }
 
 /// What a bundle leads to.
 fn run(alloc: Global, command: Command, bundle: &Bundle) -> Reached
     requires some { 1 ≤ bundle.now.parallelism }
     requires few { bundle.now.parallelism ≤ 64 }
+    requires chain { IsServed command bundle.now }
     requires uniform { IfSome bundle.now.dag (λ dag. is_uniform dag ≡ true) }
     ensures { Runs command bundle.now result.status result.log (cow_slice_items result.text) }
 {
@@ -99,25 +121,28 @@ fn run(alloc: Global, command: Command, bundle: &Bundle) -> Reached
 fn eval(alloc: Global, bundle: &Bundle) -> Reached
     ensures { Runs Command.Eval bundle.now result.status result.log (cow_slice_items result.text) }
 {
-    match eval_text(alloc, &bundle.job) {
-        Ok(text) => with_text(alloc, Status::Done, text),
+    match eval_bundle(alloc, bundle) {
+        Ok(reached) => reached,
         Err(NoMemory) => with_line(alloc, Status::NoMemory),
     }
 }
 
-/// The text of a job's sinks, and the last line.
-fn eval_text(alloc: Global, job: &Job) -> Result<Vec<u8>, NoMemory>
-    ensures sound { IfOk result (λ text. job_faults job.now ≡ []) }
-    ensures text { IfOk result (λ text. text.items ≡ sinks_text (job_rows job.now) ++ codes "done\n") }
+/// The sinks of a bundle's job and the last line, or the first fault that reaches a sink.
+fn eval_bundle(alloc: Global, bundle: &Bundle) -> Result<Reached, NoMemory>
+    ensures { IfOk result (λ reached. Runs Command.Eval bundle.now reached.status reached.log (cow_slice_items reached.text)) }
 {
-    match eval_job(alloc, job) {
+    match eval_job(alloc, &bundle.job) {
         Ok(sinks) => {
             let mut text = sink_text(alloc, &List::from_vec(sinks))?;
             text.extend_from_slice(b"done\n")?;
-            Ok(text)
+            Ok(with_text(alloc, Status::Done, text))
+        }
+        Err(JobEnd::Fault { name, kind, rec }) => {
+            let line = fault_text(alloc, &name, kind, &rec)?;
+            let status = Status::TransformFault { name, kind, rec };
+            Ok(with_text(alloc, status, line))
         }
         Err(JobEnd::NoMemory) => Err(NoMemory),
-        Err(JobEnd::Fault { .. }) => unreachable!(),
     }
 }
 

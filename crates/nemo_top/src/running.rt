@@ -4,6 +4,7 @@ ghost use Rattle.nemo_flat.specs.Flat.{IsChainForm};
 ghost use Rattle.nemo_ir.specs.Line.{IsLine};
 ghost use Rattle.nemo_ir.specs.Uniform.{is_uniform};
 ghost use Rattle.nemo_ir.specs.Valid.{Valid};
+ghost use Rattle.nemo_job.specs.Chain.{is_built};
 ghost use Rattle.nemo_policy.specs.Passes.{plain_dag};
 ghost use Rattle.nemo_top.specs.Outcome as spec;
 ghost use Rattle.nemo_top.specs.declared.word.Command.{Command};
@@ -42,6 +43,7 @@ fn standard() -> Settings
 pub(crate) fn run_bundle(alloc: Global, bundle: &Bundle) -> Reached
     requires some { 1 ≤ bundle.now.parallelism }
     requires few { bundle.now.parallelism ≤ 64 }
+    requires chain { is_built bundle.now.job ≡ true }
     requires uniform { IfSome bundle.now.dag (λ dag. is_uniform dag ≡ true) }
     ensures { spec.Runs Command.Solo bundle.now result.status result.log (cow_slice_items result.text) }
 {

@@ -2,10 +2,10 @@ ghost use Rattle.std.specs.Prelude.{◌≡◌};
 ghost use Rattle.nemo_top.specs.Statuses.{number_of};
 
 use nemo_core::Event;
-use nemo_value::List;
+use nemo_value::{Kind, List, Record, Text};
 
 /// How a call ended.
-#[derive(Clone, Copy, Debug, PartialEq, Eq)]
+#[derive(Debug, PartialEq, Eq, Drop)]
 pub enum Status {
     /// The command ended as asked.
     Done,
@@ -23,6 +23,8 @@ pub enum Status {
     BundleRefused { code: u32, place: u64 },
     /// The DAG that was proposed isn't valid: the first clause that fails, with its least index.
     DagRefused { clause: u32, index: u64 },
+    /// A fault reached a sink: the first by the vertex where it arose, its kind and its record.
+    TransformFault { name: Text, kind: Kind, rec: Record },
     /// No memory was left.
     NoMemory,
 }
@@ -48,6 +50,7 @@ impl Status {
             Status::TooLong => 6,
             Status::BundleRefused { .. } => 7,
             Status::DagRefused { .. } => 8,
+            Status::TransformFault { .. } => 9,
             Status::NoMemory => 13,
         }
     }

@@ -29,12 +29,12 @@ fault_total =
     (then_agrees (λ a b. refl) (λ a b. refl))
 
 -- the first of two orders ties where both do, and then the second does
-first_ties : (r s : Ordering) → ordering_then r s ≡ Equal → r ≡ Equal
+pub first_ties : (r s : Ordering) → ordering_then r s ≡ Equal → r ≡ Equal
 first_ties Less s h = h
 first_ties Equal s h = refl
 first_ties Greater s h = h
 
-second_ties : (r s : Ordering) → ordering_then r s ≡ Equal → s ≡ Equal
+pub second_ties : (r s : Ordering) → ordering_then r s ≡ Equal → s ≡ Equal
 second_ties Less s h = cc
 second_ties Equal s h = h
 second_ties Greater s h = cc

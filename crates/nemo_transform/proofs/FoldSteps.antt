@@ -1,7 +1,7 @@
 -- What a reduce keeps of the rows of a key, and how it changes with a row more.
-use Rattle.std.proofs.Common.{◌≡◌, ◌∙◌, ℕ, ◌+ℤ◌, refl, sym, ap, subst, List, [], ◌∷◌, ◌++◌, true, arith, Ordering, Option, Some, None, Result, Ok, Err}
-use Rattle.std.specs.Prelude.{reverse, slice_get}
-use Rattle.std.specs.List.{filter_map, cons_option}
+use Rattle.std.proofs.Common.{◌≡◌, ◌∙◌, ℕ, ◌+ℤ◌, refl, sym, ap, subst, List, [], ◌∷◌, ◌++◌, true, arith, Ordering, Some, Result, Ok, Err}
+use Rattle.std.specs.Prelude.{reverse}
+use Rattle.std.specs.List.{cons_option}
 use Rattle.std.specs.BTreeSet.{insert_key}
 use Rattle.std.specs.Ordering.{match_ordering}
 use Rattle.std.specs.declared.cmp.Ordering.TheVariants.{Less, Equal, Greater}
@@ -14,39 +14,16 @@ use Rattle.nemo_value.specs.Order.{field_cmp}
 use Rattle.nemo_value.specs.declared.expr.Kind.{Kind}
 use Rattle.nemo_value.specs.declared.field.Field.{Field}
 use Rattle.nemo_value.proofs.AscendingLists.{ascending_more, Rises, rises_ascending}
-use Rattle.nemo_transform.specs.Folds.{Known, sum_of, count_of, least, greatest, KnownGroup, folding_of, greater, with_field, with_read, start_of}
-use Rattle.nemo_transform.specs.Gives.{Row, Answer, number, total, good, bad, fault, read, is_filled}
+use Rattle.nemo_transform.specs.Folds.{sum_of, count_of, least, greatest, folding_of, greater, with_field, with_read, start_of}
+use Rattle.nemo_transform.specs.Gives.{Row, number, total, good, bad, fault, is_filled}
 use Rattle.nemo_transform.specs.declared.transform.Folding.{Folding}
 use Rattle.nemo_transform.specs.declared.transform.Folding.TheVariants.{Sum, Min, Max, Count}
-use Rattle.nemo_transform.proofs.FieldOrders.{field_strict}
-
-abbrev pub front : {X : Type 0} → List X → Option X
-front [] = None
-front (x ∷ xs) = Some x
+use Rattle.nemo_value.proofs.RecordOrder.{field_strict}
+use Rattle.nemo_transform.specs.Groups.{front, fold_of, read_at, goods, bads, made}
 
 abbrev pub end_of : {X : Type 0} → X → List X → X
 end_of x [] = x
 end_of x (y ∷ ys) = end_of y ys
-
--- the fold of some fields
-abbrev pub fold_of : Folding → List Field → Known
-fold_of Sum fs = sum_of (total fs)
-fold_of Count fs = count_of (total fs)
-fold_of Min fs = least (front (ascending field_cmp fs))
-fold_of Max fs = greatest (front (reverse (ascending field_cmp fs)))
-
-module _ (by : Folding) (field : ℕ) where
-  abbrev pub read_at : Row → Result Field Kind
-  read_at r = read by (slice_get r field)
-
-  abbrev pub goods : List Row → List Field
-  goods us = filter_map (λ r. good (read_at r)) us
-
-  abbrev pub bads : List Row → List Answer
-  bads us = filter_map (λ r. bad r (read_at r)) us
-
-  abbrev pub made : List Row → KnownGroup
-  made us = record { fold = fold_of by (goods us); is_bad = is_filled (bads us) }
 
 pub made_nothing : (by : Folding) (field : ℕ) → made by field [] ≡ start_of by
 made_nothing Sum field = refl

@@ -1,93 +1,110 @@
--- Maps that hold, for each key of some rows, what is made of the rows that have it.
-use Rattle.std.proofs.Common.{◌≡◌, ◌∙◌, refl, sym, ap, subst, List, [], ◌∷◌, ◌++◌, Bool, true, false, cond, map, inl, inr, Ordering, Some}
-use Rattle.std.specs.Prelude.{unwrap_or}
-use Rattle.std.specs.Map.{lookup}
-use Rattle.std.specs.BTreeSet.{insert_key}
-use Rattle.std.specs.BTreeMap.{insert_entry, is_at}
-use Rattle.std.specs.Ordering.{is_eq, match_ordering}
+-- Keys with their groups: the one list of entries whose keys rise and whose look-ups are right.
+use Rattle.std.proofs.Common.{◌≡◌, ◌∙◌, refl, sym, ap, subst, List, [], ◌∷◌, ℕ, Bool, true, false, cond, map, inl, inr, Ordering, Some, Bor}
+use Rattle.std.specs.Prelude.{◌⊎◌}
+use Rattle.std.specs.BTreeMap.{is_at}
+use Rattle.std.specs.Cmp.{Equal-is}
+use Rattle.std.specs.Map.{lookup, keys_of}
+use Rattle.std.specs.Option.{option_map}
+use Rattle.std.specs.Ordering.{is_eq, ordering_reverse}
 use Rattle.std.specs.declared.cmp.Ordering.TheVariants.{Less, Equal, Greater}
-use Rattle.std.proofs.lemmas.List.{append-nil, map-append}
-use Rattle.std.proofs.lemmas.List.Elements.{filter-append}
-use Rattle.nemo_value.specs.Ascending.{ascending}
+use Rattle.std.proofs.lemmas.Cmp.{tied_itself}
 use Rattle.nemo_value.specs.Order.{field_cmp}
 use Rattle.nemo_value.specs.declared.field.Field.{Field}
-use Rattle.nemo_value.proofs.AscendingLists.{Before, Rises, before_less, rises_ascending, in_ascending, ascending_more}
+use Rattle.nemo_value.proofs.AscendingLists.{Rises, before_in, one_rise, rises_ascending, in_ascending}
 use Rattle.nemo_value.proofs.Members.{In}
+use Rattle.nemo_value.proofs.RecordOrder.{field_strict}
 use Rattle.nemo_value.proofs.SortedLists.{IsStrict}
+use Rattle.nemo_transform.specs.Folds.{KnownGroup, known_group}
 use Rattle.nemo_transform.specs.Gives.{Row, key, keys, has_key, with_key}
-use Rattle.nemo_transform.proofs.FieldOrders.{field_strict, ties_self}
+use Rattle.nemo_transform.specs.Groups.{made, group_of, at_key, key_of, seen}
+use Rattle.nemo_transform.specs.declared.grouping.Group.{Group}
+use Rattle.nemo_transform.specs.declared.transform.Folding.{Folding}
+use Rattle.nemo_value.proofs.MemberLists.{in_map, map_in, in_filter, passes, filter_in}
 
 -- each of some keys with what `f` gives of it
 abbrev pub with_value : {K X : Type 0} → (K → X) → K → K × X
 with_value f k = (k, f k)
 
-module _ {K X : Type 0} (R : K → K → Ordering) (o : IsStrict R) (f g : K → X) (k : K) (other : (q : K) → (R k q ≡ Equal → ⊥) → f q ≡ g q) where
-  above : (ys : List K) → Before R k ys → map (with_value f) ys ≡ map (with_value g) ys
-  above [] b = refl
-  above (y ∷ ys) b = let same = other y (λ e. let l = b.0 in cc) in λ i. (y, same i) ∷ above ys b.1 i
+all_valued : {K X : Type 0} (f : K → X) (es : List (K × X)) → ((e : K × X) → In e es → e.1 ≡ f e.0) → es ≡ map (with_value f) (keys_of es)
+all_valued f [] h = refl
+all_valued f (e ∷ es) h = λ i. (e.0, h e (inl refl) i) ∷ all_valued f es (λ d m. h d (inr m)) i
 
-  -- one entry is set, and all others stay as they were
-  pub one_set : (ks : List K) → Rises R ks → insert_entry R (map (with_value f) ks) k (g k) ≡ map (with_value g) (insert_key R ks k)
-  one_set [] s = refl
-  one_set (y ∷ ys) s = go (R k y) refl (one_set ys s.1)
+module _ {K X : Type 0} (R : K → K → Ordering) (o : IsStrict R) where
+  -- a look-up finds only keys that are there
+  found_in : (k : K) (v : X) (es : List (K × X)) → lookup (is_at (R k)) es ≡ Some v → In k (keys_of es)
+  found_in k v [] h = absurd (cc)
+  found_in k v (e ∷ es) h = go (R k e.0) refl (found_in k v es) h
     where
-      go : (r : Ordering) → R k y ≡ r → insert_entry R (map (with_value f) ys) k (g k) ≡ map (with_value g) (insert_key R ys k)
-          → match_ordering r ((k, g k) ∷ (y, f y) ∷ map (with_value f) ys) ((y, g k) ∷ map (with_value f) ys) ((y, f y) ∷ insert_entry R (map (with_value f) ys) k (g k))
-          ≡ map (with_value g) (match_ordering r (k ∷ y ∷ ys) (y ∷ ys) (y ∷ insert_key R ys k))
-      go Less e ih = ap (λ l. (k, g k) ∷ l) (above (y ∷ ys) (e, before_less R o k y ys e s.0))
-      go Equal e ih = let same = o.one k y e in λ i. (y, g (same i)) ∷ above ys (subst (λ q. Before R q ys) (sym same) s.0) i
-      go Greater e ih = let same = other y (λ d. cc) in λ i. (y, same i) ∷ ih i
+      go : (r : Ordering) → R k e.0 ≡ r → (lookup (is_at (R k)) es ≡ Some v → In k (keys_of es)) → cond (is_eq r) (Some e.1) (lookup (is_at (R k)) es) ≡ Some v → (k ≡ e.0) ⊎ In k (keys_of es)
+      go Less d ih h = inr (ih h)
+      go Equal d ih h = inl (o.one k e.0 d)
+      go Greater d ih h = inr (ih h)
 
--- what stands at a key, where the value without an entry is right for a key that isn't there
-value_at : {K X : Type 0} (R : K → K → Ordering) (o : IsStrict R) (k : K) (g : K → X) (d : X) (ks : List K) → ((In k ks → ⊥) → d ≡ g k) → unwrap_or (lookup (is_at (R k)) (map (with_value g) ks)) d ≡ g k
-value_at R o k g d [] h = h (λ m. m)
-value_at {K} R o k g d (q ∷ qs) h = go (R k q) refl (value_at R o k g d qs)
-  where
-    apart : (r : Ordering) → R k q ≡ r → (r ≡ Equal → ⊥) → (In k qs → ⊥) → In k (q ∷ qs) → ⊥
-    apart r e n none (inl s) = n (sym e ∙ ap (R k) (sym s) ∙ ties_self R o k)
-    apart r e n none (inr m) = none m
+  -- and it finds each entry, where the keys rise
+  found : (e : K × X) (es : List (K × X)) → Rises R (keys_of es) → In e es → lookup (is_at (R e.0)) es ≡ Some e.1
+  found e [] r m = absurd m
+  found e (d ∷ es) r (inl same) =
+      ap (λ b. cond b (Some d.1) (lookup (is_at (R e.0)) es)) (ap (λ (p : K × X). is_eq (R e.0 p.0)) (sym same) ∙ ap is_eq (tied_itself o.total e.0))
+      ∙ ap (λ (p : K × X). Some p.1) (sym same)
+  found e (d ∷ es) r (inr m) =
+      let first : R d.0 e.0 ≡ Less = before_in R o d.0 e.0 (keys_of es) r.0 (in_map (λ (p : K × X). p.0) e es m) in
+      ap (λ b. cond b (Some d.1) (lookup (is_at (R e.0)) es)) (ap is_eq (o.total.antisymm e.0 d.0 ∙ ap ordering_reverse first)) ∙ found e es r.1 m
 
-    go : (r : Ordering) → R k q ≡ r → (((In k qs → ⊥) → d ≡ g k) → unwrap_or (lookup (is_at (R k)) (map (with_value g) qs)) d ≡ g k)
-        → unwrap_or (cond (is_eq r) (Some (g q)) (lookup (is_at (R k)) (map (with_value g) qs))) d ≡ g k
-    go Less e ih = ih (λ none. h (apart Less e (λ c. cc) none))
-    go Equal e ih = ap g (sym (o.one k q e))
-    go Greater e ih = ih (λ none. h (apart Greater e (λ c. cc) none))
-
-not_equal : (r : Ordering) → (r ≡ Equal → ⊥) → is_eq r ≡ false
-not_equal Less h = refl
-not_equal Equal h = absurd (h refl)
-not_equal Greater h = refl
-
-with_key_none : (k : Field) (rows : List Row) → (In k (map key rows) → ⊥) → with_key k rows ≡ []
-with_key_none k [] h = refl
-with_key_none k (r ∷ rows) h =
-    let not : has_key k r ≡ false = not_equal (field_cmp (key r) k) (λ e. h (inl (sym (field_strict.one (key r) k e)))) in
-    ap (λ b. cond b (r ∷ with_key k rows) (with_key k rows)) not ∙ with_key_none k rows (λ m. h (inr m))
-
-with_key_one : (k : Field) (r : Row) (b : Bool) → has_key k r ≡ b → with_key k (r ∷ []) ≡ cond b (r ∷ []) []
-with_key_one k r b e = ap (λ c. cond c (r ∷ []) []) e
+has_own_key : (k : Field) (r : Row) → has_key k r ≡ true → key r ≡ k
+has_own_key k r h = field_strict.one (key r) k ((Equal-is (field_cmp (key r) k)).0 h)
 
 pub own_key : (r : Row) → has_key (key r) r ≡ true
-own_key r = ap is_eq (ties_self field_cmp field_strict (key r))
+own_key r = ap is_eq (tied_itself field_strict.total (key r))
 
-module _ {X : Type 0} (f : List Row → X) where
-  abbrev pub grouped : List Row → List (Field × X)
-  grouped rows = map (with_value (λ k. f (with_key k rows))) (keys rows)
+module _ (by : Folding) (field : ℕ) where
+  abbrev pub grouped : List Row → List (Field × KnownGroup)
+  grouped rows = map (with_value (λ k. made by field (with_key k rows))) (keys rows)
 
-  -- what stands at a key
-  pub grouped_at : (k : Field) (rows : List Row) → unwrap_or (lookup (is_at (field_cmp k)) (grouped rows)) (f []) ≡ f (with_key k rows)
-  grouped_at k rows = value_at field_cmp field_strict k (λ q. f (with_key q rows)) (f []) (keys rows)
-      (λ none. sym (ap f (with_key_none k rows (λ m. none ((in_ascending field_cmp field_strict (map key rows) k).1 m)))))
+  right : (us : List Row) (g : KnownGroup) → group_of by field us ≡ Some g → g ≡ made by field us
+  right [] g h = absurd (cc)
+  right (r ∷ us) g h = cc
 
-  -- a row more
-  pub grouped_more : (rows : List Row) (r : Row) → insert_entry field_cmp (grouped rows) (key r) (f (with_key (key r) rows ++ r ∷ [])) ≡ grouped (rows ++ r ∷ [])
-  grouped_more rows r =
-      let k = key r in
-      let before : Field → X = λ q. f (with_key q rows) in
-      let after : Field → X = λ q. f (with_key q (rows ++ r ∷ [])) in
-      let here : after k ≡ f (with_key k rows ++ r ∷ []) = ap f (filter-append (has_key k) rows (r ∷ []) ∙ ap (λ l. with_key k rows ++ l) (with_key_one k r true (own_key r))) in
-      let other : (q : Field) → (field_cmp k q ≡ Equal → ⊥) → before q ≡ after q = λ q h.
-      sym (ap f (filter-append (has_key q) rows (r ∷ []) ∙ ap (λ l. with_key q rows ++ l) (with_key_one q r false (not_equal (field_cmp k q) h)) ∙ append-nil (with_key q rows))) in
-      ap (insert_entry field_cmp (grouped rows) k) (sym here)
-      ∙ one_set field_cmp field_strict before after k other (keys rows) (rises_ascending field_cmp field_strict (map key rows))
-      ∙ ap (map (with_value after)) (sym (ap (ascending field_cmp) (map-append key rows (r ∷ [])) ∙ ascending_more field_cmp field_strict (map key rows) k))
+  first : (us : List Row) (g : KnownGroup) → group_of by field us ≡ Some g → (r : Row) × In r us
+  first [] g h = absurd (cc)
+  first (r ∷ us) g h = (r, inl refl)
+
+  some : (us : List Row) (r : Row) → In r us → (g : KnownGroup) × (group_of by field us ≡ Some g)
+  some [] r m = absurd m
+  some (u ∷ us) r m = (made by field (u ∷ us), refl)
+
+  -- entries with rising keys, whose look-up of each key gives the group of the rows that have it
+  pub entries_are : (rows : List Row) (es : List (Field × KnownGroup)) → Rises field_cmp (keys_of es) → ((k : Field) → lookup (is_at (field_cmp k)) es ≡ group_of by field (with_key k rows)) → es ≡ grouped rows
+  entries_are rows es r h =
+      all_valued f es (λ e m. right (with_key e.0 rows) e.1 (sym (h e.0) ∙ found field_cmp field_strict e es r m))
+      ∙ ap (map (with_value f)) (one_rise field_cmp field_strict (keys_of es) (keys rows) r (rises_ascending field_cmp field_strict (map key rows))
+      (record { members = λ k. (there k, returned k) }))
+    where
+      f : Field → KnownGroup
+      f k = made by field (with_key k rows)
+
+      there : (k : Field) → In k (keys_of es) → In k (keys rows)
+      there k m =
+          let e = map_in (λ (p : Field × KnownGroup). p.0) k es m in
+          let row = first (with_key e.0.0 rows) e.0.1 (sym (h e.0.0) ∙ found field_cmp field_strict e.0 es r e.1) in
+          let same : key row.0 ≡ k = has_own_key e.0.0 row.0 (passes (has_key e.0.0) row.0 rows row.1) ∙ sym e.2 in
+          (in_ascending field_cmp field_strict (map key rows) k).1 (subst (λ q. In q (map key rows)) same (in_map key row.0 rows (in_filter (has_key e.0.0) row.0 rows row.1)))
+
+      returned : (k : Field) → In k (keys rows) → In k (keys_of es)
+      returned k m =
+          let row = map_in key k rows ((in_ascending field_cmp field_strict (map key rows) k).0 m) in
+          let g = some (with_key k rows) row.0 (filter_in (has_key k) row.0 rows row.1 (ap (λ q. has_key q row.0) row.2 ∙ own_key row.0)) in
+          found_in field_cmp field_strict k g.0 es (h k ∙ g.1)
+
+-- the same entries with borrowed keys
+pub seen_lookup : (k : Field) (es : List (Bor Field × Group)) → lookup (is_at (field_cmp k)) (map seen es) ≡ option_map known_group (lookup (at_key k) es)
+seen_lookup k [] = refl
+seen_lookup k (e ∷ es) = go (is_eq (field_cmp k e.0.now)) (seen_lookup k es)
+  where
+    go : (b : Bool) → lookup (is_at (field_cmp k)) (map seen es) ≡ option_map known_group (lookup (at_key k) es)
+        → cond b (Some (known_group e.1)) (lookup (is_at (field_cmp k)) (map seen es)) ≡ option_map known_group (cond b (Some e.1) (lookup (at_key k) es))
+    go true ih = refl
+    go false ih = ih
+
+pub seen_keys : (es : List (Bor Field × Group)) → keys_of (map seen es) ≡ map key_of es
+seen_keys [] = refl
+seen_keys (e ∷ es) = ap (λ ks. e.0.now ∷ ks) (seen_keys es)

@@ -1,5 +1,5 @@
 -- The answers of a reduce, from what is kept for each key.
-use Rattle.std.proofs.Common.{◌≡◌, ◌∙◌, ℕ, ℤ, refl, sym, ap, List, [], ◌∷◌, ◌++◌, Bool, true, false, cond, map, inl, inr, Option, Some, None, Result, Ok, Err}
+use Rattle.std.proofs.Common.{◌≡◌, ◌∙◌, ℕ, ℤ, refl, sym, ap, List, [], ◌∷◌, ◌++◌, Bool, true, false, cond, map, inl, inr, Option, Some, Result, Ok, Err}
 use Rattle.std.specs.Prelude.{◌↔◌, reverse}
 use Rattle.std.specs.List.{filter_map, flat_map, cons_option}
 use Rattle.std.proofs.lemmas.List.{append-nil}
@@ -13,32 +13,18 @@ use Rattle.nemo_value.specs.declared.field.Field.TheVariants.{Int}
 use Rattle.nemo_value.proofs.AscendingLists.{in_ascending}
 use Rattle.nemo_value.proofs.Members.{In}
 use Rattle.nemo_transform.specs.FaultOrder.{fault_cmp}
-use Rattle.nemo_transform.specs.Folds.{KnownGroup, value_in, number_in}
+use Rattle.nemo_transform.specs.Folds.{value_in, number_in}
 use Rattle.nemo_transform.specs.Gives.{Row, Answer, fault, key, keys, has_key, with_key, bad, total, is_filled, first_of, summed, folded, unless, reduced, answers, row_in, fault_in, rows_in, own_faults}
-use Rattle.nemo_transform.specs.declared.fault.Fault.{Fault}
 use Rattle.nemo_transform.specs.declared.transform.Folding.{Folding}
 use Rattle.nemo_transform.specs.declared.transform.Folding.TheVariants.{Sum, Min, Max, Count}
 use Rattle.nemo_transform.specs.declared.transform.Transform.TheVariants.{Reduce}
 use Rattle.nemo_transform.proofs.FaultOrders.{fault_strict}
-use Rattle.nemo_transform.proofs.FieldOrders.{field_strict}
-use Rattle.nemo_transform.proofs.FoldSteps.{front, fold_of, read_at, goods, bads, made}
-use Rattle.nemo_transform.proofs.GivenMembers.{flat_same, flat_over_map, chosen_flat, either, in_map, in_flat, flat_in, in_chosen, chosen_in, in_filter, filter_in, ascending_same}
+use Rattle.nemo_value.proofs.RecordOrder.{field_strict}
+use Rattle.nemo_transform.specs.Groups.{front, fold_of, read_at, goods, bads, made, fault_read, fault_of, valued, answer_at}
+use Rattle.nemo_value.proofs.AscendingParts.{ascending_same}
+use Rattle.nemo_value.proofs.JoinedLists.{flat_same, flat_over_map, chosen_flat}
+use Rattle.nemo_value.proofs.MemberLists.{either, in_map, in_flat, flat_in, in_chosen, chosen_in, in_filter, filter_in}
 use Rattle.nemo_transform.proofs.GroupEntries.{with_value, grouped, own_key}
-
--- the answer of a key whose fold has this value
-abbrev pub valued : Field → Result (Option Field) Kind → List Answer
-valued k (Ok (Some v)) = Ok (k ∷ v ∷ []) ∷ []
-valued k (Ok None) = []
-valued k (Err kind) = fault kind (k ∷ []) ∷ []
-
--- the answers of a key, but for the faults of its bad rows
-abbrev pub answer_at : Field × KnownGroup → List Answer
-answer_at e = cond e.1.is_bad [] (valued e.0 (value_in e.1.fold))
-
--- why a row is bad, with the row
-abbrev pub fault_read : Row → Result Field Kind → Option Fault
-fault_read r (Ok f) = None
-fault_read r (Err k) = Some (record { kind = k; rec = r })
 
 summed_is : (k : Field) (z : ℤ) (b : Bool) → fits_i64 z ≡ b → summed k z ≡ valued k (number_in z)
 summed_is k z true e = ap (λ c. cond c (Ok (k ∷ Int z ∷ []) ∷ []) (fault Overflow (k ∷ []) ∷ [])) e ∙ sym (ap (λ c. valued k (cond c (Ok (Some (Int z))) (Err Overflow))) e)
@@ -75,9 +61,6 @@ by_key_all h more rows z =
 ---- the answers of a key
 
 module _ (by : Folding) (field : ℕ) where
-  abbrev pub fault_of : Row → Option Fault
-  fault_of r = fault_read r (read_at by field r)
-
   no_rows_bad : (us : List Row) → filter_map row_in (bads by field us) ≡ []
   no_rows_bad [] = refl
   no_rows_bad (r ∷ us) = go (read_at by field r) (no_rows_bad us)
@@ -86,11 +69,11 @@ module _ (by : Folding) (field : ℕ) where
       go (Ok f) ih = ih
       go (Err k) ih = ih
 
-  faults_bad : (us : List Row) → filter_map fault_in (bads by field us) ≡ filter_map fault_of us
+  faults_bad : (us : List Row) → filter_map fault_in (bads by field us) ≡ filter_map (fault_of by field) us
   faults_bad [] = refl
   faults_bad (r ∷ us) = go (read_at by field r) (faults_bad us)
     where
-      go : (v : Result Field Kind) → filter_map fault_in (bads by field us) ≡ filter_map fault_of us → filter_map fault_in (cons_option (bad r v) (bads by field us)) ≡ cons_option (fault_read r v) (filter_map fault_of us)
+      go : (v : Result Field Kind) → filter_map fault_in (bads by field us) ≡ filter_map (fault_of by field) us → filter_map fault_in (cons_option (bad r v) (bads by field us)) ≡ cons_option (fault_read r v) (filter_map (fault_of by field) us)
       go (Ok f) ih = ih
       go (Err k) ih = ap (λ l. record { kind = k; rec = r } ∷ l) ih
 
@@ -101,16 +84,16 @@ module _ (by : Folding) (field : ℕ) where
       go [] e = ap rows_in (folded_is by k (goods by field us))
       go (b ∷ bs) e = e
 
-  faults_reduced : (k : Field) (us : List Row) → filter_map fault_in (reduced by field k us) ≡ filter_map fault_of us ++ filter_map fault_in (answer_at (k, made by field us))
+  faults_reduced : (k : Field) (us : List Row) → filter_map fault_in (reduced by field k us) ≡ filter_map (fault_of by field) us ++ filter_map fault_in (answer_at (k, made by field us))
   faults_reduced k us = go (bads by field us) (faults_bad us)
     where
-      go : (bs : List Answer) → filter_map fault_in bs ≡ filter_map fault_of us
-          → filter_map fault_in (unless bs (folded by k (goods by field us))) ≡ filter_map fault_of us ++ filter_map fault_in (cond (is_filled bs) [] (valued k (value_in (fold_of by (goods by field us)))))
+      go : (bs : List Answer) → filter_map fault_in bs ≡ filter_map (fault_of by field) us
+          → filter_map fault_in (unless bs (folded by k (goods by field us))) ≡ filter_map (fault_of by field) us ++ filter_map fault_in (cond (is_filled bs) [] (valued k (value_in (fold_of by (goods by field us)))))
       go [] e = ap (filter_map fault_in) (folded_is by k (goods by field us)) ∙ ap (λ l. l ++ filter_map fault_in (valued k (value_in (fold_of by (goods by field us))))) e
-      go (b ∷ bs) e = e ∙ sym (append-nil (filter_map fault_of us))
+      go (b ∷ bs) e = e ∙ sym (append-nil (filter_map (fault_of by field) us))
 
   -- the rows of a reduce, from what is kept for each key
-  pub rows_from_groups : (rows : List Row) → rows_in (flat_map answer_at (grouped (made by field) rows)) ≡ rows_in (answers (Reduce by field) rows [])
+  pub rows_from_groups : (rows : List Row) → rows_in (flat_map answer_at (grouped by field rows)) ≡ rows_in (answers (Reduce by field) rows [])
   rows_from_groups rows =
       let each = λ (k : Field). answer_at (k, made by field (with_key k rows)) in
       let each_reduced = λ (k : Field). reduced by field k (with_key k rows) in
@@ -120,13 +103,13 @@ module _ (by : Folding) (field : ℕ) where
       ∙ sym (chosen_flat row_in each_reduced (keys rows))
 
   -- and the faults, from those of bad rows in any order and those of the folds
-  pub faults_from_groups : (rows : List Row) → ascending fault_cmp (filter_map fault_of rows ++ filter_map fault_in (flat_map answer_at (grouped (made by field) rows))) ≡ own_faults (answers (Reduce by field) rows [])
+  pub faults_from_groups : (rows : List Row) → ascending fault_cmp (filter_map (fault_of by field) rows ++ filter_map fault_in (flat_map answer_at (grouped by field rows))) ≡ own_faults (answers (Reduce by field) rows [])
   faults_from_groups rows =
       let each = λ (k : Field). answer_at (k, made by field (with_key k rows)) in
       let each_reduced = λ (k : Field). reduced by field k (with_key k rows) in
       let over = λ (k : Field). filter_map fault_in (each k) in
-      ap (λ l. ascending fault_cmp (filter_map fault_of rows ++ l))
+      ap (λ l. ascending fault_cmp (filter_map (fault_of by field) rows ++ l))
       (ap (filter_map fault_in) (flat_over_map answer_at (with_value (λ k. made by field (with_key k rows))) (keys rows)) ∙ chosen_flat fault_in each (keys rows))
-      ∙ sym (ascending_same fault_cmp fault_strict (flat_map (λ k. filter_map fault_of (with_key k rows) ++ over k) (keys rows)) (filter_map fault_of rows ++ flat_map over (keys rows)) (by_key_all fault_of over rows))
+      ∙ sym (ascending_same fault_cmp fault_strict (flat_map (λ k. filter_map (fault_of by field) (with_key k rows) ++ over k) (keys rows)) (filter_map (fault_of by field) rows ++ flat_map over (keys rows)) (by_key_all (fault_of by field) over rows))
       ∙ ap (ascending fault_cmp) (sym (chosen_flat fault_in each_reduced (keys rows)
-      ∙ flat_same (λ k. filter_map fault_in (each_reduced k)) (λ k. filter_map fault_of (with_key k rows) ++ over k) (keys rows) (λ k. faults_reduced k (with_key k rows))))
+      ∙ flat_same (λ k. filter_map fault_in (each_reduced k)) (λ k. filter_map (fault_of by field) (with_key k rows) ++ over k) (keys rows) (λ k. faults_reduced k (with_key k rows))))

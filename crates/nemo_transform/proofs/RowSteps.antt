@@ -1,9 +1,9 @@
 -- One more row of a transform that works row by row.
-use Rattle.std.proofs.Common.{◌≡◌, ap, sym, ◌∙◌, ◌∷◌, ◌++◌, [], ℕ, ◌+◌, ◌<◌, List, length, drop, get_or, map, Ok, Err, Result, append_assoc}
+use Rattle.std.proofs.Common.{◌≡◌, refl, ap, sym, ◌∙◌, ◌∷◌, ◌++◌, [], ℕ, ◌+◌, ◌<◌, List, length, drop, get_or, map, Ok, Err, Result, append_assoc}
 use Rattle.std.proofs.lemmas.List.{at_drop_more}
 use Rattle.std.specs.List.{filter_map, flat_map}
 use Rattle.nemo_value.specs.declared.expr.Kind.{Kind}
-use Rattle.nemo_transform.specs.Gives.{Row, Answer, rows_or, rows_in, fault_in}
+use Rattle.nemo_transform.specs.Gives.{Row, Answer, rows_or, rows_in, fault_in, then_rows}
 use Rattle.nemo_transform.specs.declared.fault.Fault.{Fault}
 use Rattle.nemo_transform.proofs.MapSteps.{rows_in-front, no_fault-front}
 
@@ -40,7 +40,7 @@ stayed : {X : Type 0} (old new rest before all : List X) → new ≡ old → bef
 stayed old new rest before all n b h = ap (λ l. l ++ rest) n ∙ ap (λ l. old ++ l) (sym b) ∙ h
 
 -- a row that gives rows
-pub after_rows : (f : Row → Result (List Row) Kind) (rows : List Row) (i : ℕ) (row : Row) (more given now_given : List Row) (faults now_faults : List Fault) → At rows i row → f row ≡ Ok more → now_given ≡ given ++ more → now_faults ≡ faults → SoFar f rows i given faults → SoFar f rows (i + 1) now_given now_faults
+after_rows : (f : Row → Result (List Row) Kind) (rows : List Row) (i : ℕ) (row : Row) (more given now_given : List Row) (faults now_faults : List Fault) → At rows i row → f row ≡ Ok more → now_given ≡ given ++ more → now_faults ≡ faults → SoFar f rows i given faults → SoFar f rows (i + 1) now_given now_faults
 after_rows f rows i row more given now_given faults now_faults at e g s h =
     let rest = answers_by f (drop (i + 1) rows) in
     let here : answers_by f (drop i rows) ≡ map Ok more ++ rest = step f rows i row (Ok more) at e in
@@ -48,6 +48,14 @@ after_rows f rows i row more given now_given faults now_faults at e g s h =
       given = moved given now_given more (rows_in rest) _ _ g (ap rows_in here ∙ rows_in-front more rest) h.given;
       faults = stayed faults now_faults (filter_map fault_in rest) _ _ s (ap (filter_map fault_in) here ∙ no_fault-front more rest) h.faults;
     }
+
+-- a row whose rows were put behind the others
+pub after_added : (f : Row → Result (List Row) Kind) (rows : List Row) (i : ℕ) (row : Row) (given now_given : List Row) (faults now_faults : List Fault) → At rows i row → then_rows (Ok given) (f row) ≡ Ok now_given → now_faults ≡ faults → SoFar f rows i given faults → SoFar f rows (i + 1) now_given now_faults
+after_added f rows i row given now_given faults now_faults at g s h = go (f row) refl g
+  where
+    go : (v : Result (List Row) Kind) → f row ≡ v → then_rows (Ok given) v ≡ Ok now_given → SoFar f rows (i + 1) now_given now_faults
+    go (Ok more) e g = after_rows f rows i row more given now_given faults now_faults at e (cc) s h
+    go (Err k) e g = absurd (cc)
 
 -- a row that gives a fault
 pub after_fault : (f : Row → Result (List Row) Kind) (rows : List Row) (i : ℕ) (row : Row) (k : Kind) (given now_given : List Row) (faults now_faults : List Fault) → At rows i row → f row ≡ Err k → now_given ≡ given → now_faults ≡ faults ++ record { kind = k; rec = row } ∷ [] → SoFar f rows i given faults → SoFar f rows (i + 1) now_given now_faults

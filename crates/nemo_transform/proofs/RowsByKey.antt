@@ -1,28 +1,19 @@
 -- Rows that are grouped by their key, row by row.
-use Rattle.std.proofs.Common.{◌≡◌, ◌∙◌, ℕ, ◌+◌, ◌<◌, List, [], ◌∷◌, ◌++◌, Bool, true, false, cond, Some, refl, sym, ap, subst, length, get_or, take, append-nil, Ordering, Option, None, map, Vec, Bor, Global}
+use Rattle.std.proofs.Common.{◌≡◌, ◌∙◌, ℕ, ◌+◌, ◌<◌, List, [], ◌∷◌, ◌++◌, Bool, true, false, cond, Some, refl, sym, ap, subst, length, get_or, take, append-nil, Option, None, map, Vec, Bor, Global}
 use Rattle.std.specs.List.{slice_get}
 use Rattle.std.specs.Option.{unwrap_or, option_map_or, UnwrapsOrElse}
 use Rattle.std.specs.Vec.{vec_len}
 use Rattle.std.specs.Prelude.{pos}
-use Rattle.std.specs.Ordering.{is_eq, ordering_then}
-use Rattle.std.specs.declared.cmp.Ordering.TheVariants.{Less, Equal, Greater}
+use Rattle.std.specs.Cmp.{Equal-is}
+use Rattle.std.specs.Ordering.{is_eq}
 use Rattle.std.proofs.lemmas.List.{take_more, map-append}
 use Rattle.std.proofs.lemmas.List.Elements.{filter-append}
-use Rattle.nemo_value.proofs.RecordOrder.{record_strict}
+use Rattle.nemo_value.specs.FieldOrder.{field_one}
 use Rattle.nemo_value.specs.Order.{field_cmp}
 use Rattle.nemo_value.specs.declared.field.Field.{Field}
 use Rattle.nemo_value.specs.declared.record.Record.{Record}
 use Rattle.nemo_value.specs.declared.field.Field.TheVariants.{Int}
 use Rattle.nemo_transform.specs.Gives.{Row, has_key, key, with_key}
-
-equal_is : (r : Ordering) → is_eq r ≡ true → r ≡ Equal
-equal_is Less h = cc
-equal_is Equal h = refl
-equal_is Greater h = cc
-
--- fields that tie are equal
-pub field_one : (a b : Field) → is_eq (field_cmp a b) ≡ true → a ≡ b
-field_one a b h = let e = record_strict.one (a ∷ []) (b ∷ []) (ap (λ r. ordering_then r Equal) (equal_is (field_cmp a b) h)) in cc
 
 -- the key of a row is its first field
 pub key_is : (x : Row) (k : Field) → slice_get x 0 ≡ Some k → key x ≡ k
@@ -35,7 +26,7 @@ with_key-more q k x rows i within is at =
     ap (with_key q) (take_more rows i x within ∙ ap (λ y. take i rows ++ y ∷ []) (sym is)) ∙ filter-append (has_key q) (take i rows) (x ∷ []) ∙ go (is_eq (field_cmp k q)) refl
   where
     go : (b : Bool) → is_eq (field_cmp k q) ≡ b → with_key q (take i rows) ++ with_key q (x ∷ []) ≡ cond b (with_key k (take i rows) ++ x ∷ []) (with_key q (take i rows))
-    go true e = ap (λ c. with_key q (take i rows) ++ cond c (x ∷ []) []) (ap (λ f. is_eq (field_cmp f q)) (key_is x k at) ∙ e) ∙ ap (λ f. with_key f (take i rows) ++ x ∷ []) (sym (field_one k q e))
+    go true e = ap (λ c. with_key q (take i rows) ++ cond c (x ∷ []) []) (ap (λ f. is_eq (field_cmp f q)) (key_is x k at) ∙ e) ∙ ap (λ f. with_key f (take i rows) ++ x ∷ []) (sym (field_one k q ((Equal-is (field_cmp k q)).0 e)))
     go false e = ap (λ c. with_key q (take i rows) ++ cond c (x ∷ []) []) (ap (λ f. is_eq (field_cmp f q)) (key_is x k at) ∙ e) ∙ append-nil (with_key q (take i rows))
 
 -- the rows behind what a look-up gives

@@ -2,6 +2,10 @@ pub mod Brought
 pub mod FaultOrder
 pub mod Folds
 pub mod Gives
+pub mod Groups
+pub mod Laws
 pub mod Passing
 pub mod Ports
+pub mod RowByRow
 pub mod Soundness
+pub mod Tasks

@@ -1,17 +1,24 @@
-ghost use Rattle.std.specs.Prelude.{◌≡◌, ◌+◌, ◌^◌, ◌<◌, ◌≤◌, [], ◌∷◌, ◌++◌, option_to_list, IfOk};
-ghost use Rattle.std.specs.Option.{option_copied};
+ghost use Rattle.std.specs.Prelude.{◌≡◌, ◌+◌, ◌^◌, ◌<◌, ◌≤◌, [], ◌∷◌, ◌++◌, map, option_to_list, IfOk, OnOk};
+ghost use Rattle.std.specs.HashMap.{get_by};
+ghost use Rattle.std.specs.List.{filter_map, flat_map};
+ghost use Rattle.std.specs.List.Sorted.{IsStrictlySortedBy};
+ghost use Rattle.std.specs.Map.{lookup};
+ghost use Rattle.std.specs.Option.{option_copied, option_map};
 ghost use Rattle.nemo_value.specs.Answers.{Gives};
+ghost use Rattle.nemo_value.specs.Order.{field_cmp};
+ghost use Rattle.nemo_value.specs.declared.field.Field.{Field};
 ghost use Rattle.nemo_transform.specs.Folds.{known, known_or, known_group, start_of, folding_of, folded_with, with_read, why, value_in, lesser, greater, size};
-ghost use Rattle.nemo_transform.specs.Gives.{answers, rows_in, own_faults, read};
+ghost use Rattle.nemo_transform.specs.Gives.{answers, rows_in, fault_in, own_faults, read, with_key};
+ghost use Rattle.nemo_transform.specs.Groups.{group_of, fault_of, at_key, key_of, seen, answer_at};
 ghost use Rattle.nemo_transform.specs.declared.transform.Transform.TheVariants.{Reduce, Distinct};
 
 use crate::applying::Applied;
 use crate::fault::{Fault, in_order};
 use crate::transform::Folding;
-use nemo_value::{EvalFault, Field, Kind, List, NoMemory, Record, TryCopy};
+use nemo_value::{EvalFault, Field, Kind, List, NoMemory, Record, TryCopy, sort_records};
 use std::alloc::Global;
 use std::cmp::Ordering;
-use std::collections::{BTreeMap, BTreeSet};
+use std::collections::{HashMap, HashSet};
 
 /// Each different row once, in ascending order.
 #[tactic(auto, using(crate::proofs::MapSteps::passing))]
@@ -19,16 +26,15 @@ pub(crate) fn distinct(alloc: Global, rows: &[Record]) -> Result<Applied, NoMemo
     ensures rows { IfOk result (λ a. a.rows ≡ rows_in (answers Distinct rows.now [])) }
     ensures faults { IfOk result (λ a. a.faults ≡ own_faults (answers Distinct rows.now [])) }
 {
-    let mut seen: BTreeSet<&Record> = BTreeSet::new(alloc);
+    let mut seen: HashSet<&Record> = HashSet::new(alloc);
+    let mut different = List::new(alloc);
     for row in rows {
-        seen.insert(row)?;
-    }
-    let mut different = List::with_capacity(alloc, seen.len())?;
-    for row in seen {
-        different.push(row.copy(alloc)?)?;
+        if seen.insert(row)? {
+            different.push(row.copy(alloc)?)?;
+        }
     }
     Ok(Applied {
-        rows: different,
+        rows: sort_records(alloc, different)?,
         faults: List::new(alloc),
     })
 }
@@ -43,9 +49,29 @@ pub(crate) fn reduced(
     ensures rows { IfOk result (λ a. a.rows ≡ rows_in (answers (Reduce by field) rows.now [])) }
     ensures faults { IfOk result (λ a. a.faults ≡ own_faults (answers (Reduce by field) rows.now [])) }
 {
-    let empty = start(by);
-    let mut groups: BTreeMap<&Field, Group<'_>> = BTreeMap::new(alloc);
     let mut faults = Vec::new(alloc);
+    let groups = groups_of(alloc, by, field, rows, &mut faults)?;
+    let entries = in_key_order(alloc, groups)?;
+    let given = rows_of(alloc, entries, &mut faults)?;
+    Ok(Applied {
+        rows: given,
+        faults: in_order(alloc, faults)?,
+    })
+}
+
+/// The group of the rows of each key. The faults of bad rows go behind others.
+fn groups_of<'a>(
+    alloc: Global,
+    by: Folding,
+    field: u32,
+    rows: &'a [Record],
+    faults: &mut Vec<Fault>,
+) -> Result<HashMap<&'a Field, Group<'a>>, NoMemory>
+    ensures groups { IfOk result (λ m. (k : Field) → option_map known_group (get_by (at_key k) m) ≡ group_of by field (with_key k rows.now)) }
+    ensures faults { OnOk result (faults.new.items ≡ faults.old.items ++ filter_map (fault_of by field) rows.now) }
+{
+    let empty = start(by);
+    let mut groups: HashMap<&'a Field, Group<'a>> = HashMap::new(alloc);
     for row in rows {
         let group = groups.entry(row.key())?.or_insert(empty);
         let (more, why) = with_row(*group, row.get(field));
@@ -57,8 +83,33 @@ pub(crate) fn reduced(
             })?;
         }
     }
-    let mut given = List::with_capacity(alloc, groups.len())?;
-    for (key, group) in groups {
+    Ok(groups)
+}
+
+/// The keys with their groups, in ascending order.
+fn in_key_order<'a>(
+    alloc: Global,
+    groups: HashMap<&'a Field, Group<'a>>,
+) -> Result<Vec<(&'a Field, Group<'a>)>, NoMemory>
+    ensures order { IfOk result (λ entries. IsStrictlySortedBy field_cmp (map key_of entries.items)) }
+    ensures same { IfOk result (λ entries. (k : Field) → lookup (at_key k) entries.items ≡ get_by (at_key k) groups.entry) }
+{
+    let mut entries: Vec<(&'a Field, Group<'a>)> = groups.into_iter().collect(alloc)?;
+    entries.sort_unstable_by_key(|entry| entry.0);
+    Ok(entries)
+}
+
+/// Of each key without bad rows the key and the value of its fold. The faults of sums go behind others.
+fn rows_of(
+    alloc: Global,
+    entries: Vec<(&Field, Group<'_>)>,
+    faults: &mut Vec<Fault>,
+) -> Result<List<Record>, NoMemory>
+    ensures rows { IfOk result (λ rows. rows ≡ rows_in (flat_map answer_at (map seen entries.entry.items))) }
+    ensures faults { OnOk result (faults.new.items ≡ faults.old.items ++ filter_map fault_in (flat_map answer_at (map seen entries.entry.items))) }
+{
+    let mut given = List::with_capacity(alloc, entries.len())?;
+    for (key, group) in entries {
         if group.is_bad {
             continue;
         }
@@ -72,10 +123,7 @@ pub(crate) fn reduced(
             Err(EvalFault::NoMemory) => return Err(NoMemory),
         }
     }
-    Ok(Applied {
-        rows: given,
-        faults: in_order(alloc, faults)?,
-    })
+    Ok(given)
 }
 
 /// The row of a key and, where it has one, a value.

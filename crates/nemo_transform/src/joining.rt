@@ -1,19 +1,17 @@
-ghost use Rattle.std.specs.Prelude.{◌≡◌, ◌≤◌, ◌++◌, [], map, drop, length, IfOk};
+ghost use Rattle.std.specs.Prelude.{◌≡◌, ◌≤◌, ◌++◌, [], map, drop, length, IfOk, OnOk};
 ghost use Rattle.std.specs.List.{flat_map, filter_map};
 ghost use Rattle.std.specs.Option.{option_map_or};
-ghost use Rattle.std.specs.BTreeMap.{get_by};
+ghost use Rattle.std.specs.HashMap.{get_by};
+ghost use Rattle.std.specs.Ordering.{is_eq};
 ghost use Rattle.nemo_value.specs.Order.{field_cmp};
 ghost use Rattle.nemo_value.specs.declared.field.Field.{Field};
 ghost use Rattle.nemo_transform.specs.Gives.{joined, pair, with_key, rows_in, fault_in, own_faults, is_filled};
 
 use crate::applying::Applied;
 use crate::fault::{Fault, in_order};
-use nemo_value::{Field, Kind, List, NoMemory, Record, TryCopy};
+use nemo_value::{Field, Kind, List, MAX_FIELDS, NoMemory, Record, TryCopy};
 use std::alloc::Global;
-use std::collections::BTreeMap;
-
-/// The most fields that a record may have.
-const MAX_FIELDS: usize = 16;
+use std::collections::HashMap;
 
 /// Of each left row the rows with the right rows of its key, in their order, and a fault where these are too wide.
 pub(crate) fn joined(alloc: Global, left: &[Record], right: &[Record]) -> Result<Applied, NoMemory>
@@ -45,10 +43,10 @@ pub(crate) fn joined(alloc: Global, left: &[Record], right: &[Record]) -> Result
 fn rows_by_key<'a>(
     alloc: Global,
     rows: &'a [Record],
-) -> Result<BTreeMap<&'a Field, Vec<&'a Record>>, NoMemory>
-    ensures { IfOk result (λ m. (q : Field) → option_map_or (λ g. map (λ r. r.now) g.items) (get_by (λ k. field_cmp q k.now) m) [] ≡ with_key q rows.now) }
+) -> Result<HashMap<&'a Field, Vec<&'a Record>>, NoMemory>
+    ensures { IfOk result (λ m. (q : Field) → option_map_or (λ g. map (λ r. r.now) g.items) (get_by (λ k. is_eq (field_cmp q k.now)) m) [] ≡ with_key q rows.now) }
 {
-    let mut by_key: BTreeMap<&'a Field, Vec<&'a Record>> = BTreeMap::new(alloc);
+    let mut by_key: HashMap<&'a Field, Vec<&'a Record>> = HashMap::new(alloc);
     for row in rows {
         by_key.entry(row.key())?.or_default().push(row)?;
     }
@@ -84,14 +82,20 @@ fn paired(alloc: Global, left: &Record, right: &Record) -> Result<Record, NoMemo
     let own = left.fields();
     let more = right.fields();
     let mut fields = List::with_capacity(alloc, own.len() + more.len() - 1)?;
-    for field in own.as_slice() {
-        fields.push(field.copy(alloc)?)?;
-    }
-    for field in &more.as_slice()[1..] {
-        fields.push(field.copy(alloc)?)?;
-    }
+    push_copies(alloc, &mut fields, own.as_slice())?;
+    push_copies(alloc, &mut fields, &more.as_slice()[1..])?;
     match Record::new(fields) {
         Ok(row) => Ok(row),
         Err(_) => unreachable!(),
     }
+}
+
+/// Puts copies of some fields behind others.
+fn push_copies(alloc: Global, fields: &mut List<Field>, more: &[Field]) -> Result<(), NoMemory>
+    ensures { OnOk result (fields.new ≡ fields.old ++ more.now) }
+{
+    for field in more {
+        fields.push(field.copy(alloc)?)?;
+    }
+    Ok(())
 }

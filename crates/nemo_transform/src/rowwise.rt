@@ -1,32 +1,39 @@
-ghost use Rattle.std.specs.Prelude.{◌≡◌, ◌∷◌, [], ◌++◌, ◌≤◌, length, map, filter, slice_get, Ok, IfOk, OnOk, IsTrue};
-ghost use Rattle.std.specs.List.{list_all};
+ghost use Rattle.std.specs.Prelude.{◌≡◌, ◌∷◌, [], ◌++◌, ◌≤◌, length, map, filter, IfOk, OnOk, IsTrue};
+ghost use Rattle.std.specs.List.{flat_map, list_all};
+ghost use Rattle.std.specs.Option.{option_copied};
 ghost use Rattle.nemo_value.specs.Answers.{Gives};
 ghost use Rattle.nemo_value.specs.Val.{val};
 ghost use Rattle.nemo_value.specs.declared.field.Field.TheVariants as field;
-ghost use Rattle.nemo_transform.specs.Gives as spec;
-ghost use Rattle.nemo_transform.specs.Gives.{answers, rows_in, own_faults, pieces, is_filled};
+ghost use Rattle.nemo_transform.specs.Gives.{emitted, row_of, rows_or, rows_in, own_faults, words_in, pieces, is_filled};
 ghost use Rattle.nemo_transform.specs.Passing.{passes};
-ghost use Rattle.nemo_transform.specs.Soundness.{is_few};
-ghost use Rattle.nemo_transform.specs.declared.transform.Transform.TheVariants as transform;
+ghost use Rattle.nemo_transform.specs.RowByRow.{rows_for, Adds, Puts};
+ghost use Rattle.nemo_transform.specs.Soundness.{is_few, is_sound};
 
-use crate::applying::{Applied, make_row};
+use crate::applying::Applied;
 use crate::fault::{Fault, in_order};
-use crate::transform::Output;
+use crate::transform::{Output, Transform};
 use nemo_value::{EvalFault, Expr, Field, Kind, List, NoMemory, Record, Text, TryCopy, eval};
 use std::alloc::Global;
 
-/// The rows for which `cond` isn't 0.
-pub(crate) fn filtered(alloc: Global, cond: &Expr, rows: &[Record]) -> Result<Applied, NoMemory>
-    ensures rows { IfOk result (λ a. a.rows ≡ rows_in (answers (transform.Filter cond.now) rows.now [])) }
-    ensures faults { IfOk result (λ a. a.faults ≡ own_faults (answers (transform.Filter cond.now) rows.now [])) }
+/// What a transform that goes row by row gives: of each row its rows, or its first fault.
+pub(crate) fn row_by_row(
+    alloc: Global,
+    transform: &Transform,
+    rows: &[Record],
+) -> Result<Applied, NoMemory>
+    requires { IsTrue (is_sound transform.now) }
+    ensures rows { IfOk result (λ a. a.rows ≡ rows_in (flat_map (λ r. rows_or r (rows_for transform.now r)) rows.now)) }
+    ensures faults { IfOk result (λ a. a.faults ≡ own_faults (flat_map (λ r. rows_or r (rows_for transform.now r)) rows.now)) }
 {
-    let mut given = List::new(alloc);
+    let mut given = List::with_capacity(alloc, rows.len())?;
     let mut faults = Vec::new(alloc);
     for row in rows {
-        match is_so(alloc, cond, row) {
-            Ok(true) => given.push(row.copy(alloc)?)?,
-            Ok(false) => {}
-            Err(EvalFault::Fault(kind)) => add_fault(alloc, &mut faults, kind, row)?,
+        match add_rows(alloc, transform, row, &mut given) {
+            Ok(()) => {}
+            Err(EvalFault::Fault(kind)) => faults.push(Fault {
+                kind,
+                rec: row.copy(alloc)?,
+            })?,
             Err(EvalFault::NoMemory) => return Err(NoMemory),
         }
     }
@@ -34,6 +41,47 @@ pub(crate) fn filtered(alloc: Global, cond: &Expr, rows: &[Record]) -> Result<Ap
         rows: given,
         faults: in_order(alloc, faults)?,
     })
+}
+
+/// Puts the rows that a transform gives of a row at the end. On a fault the others stay as they were.
+fn add_rows(
+    alloc: Global,
+    transform: &Transform,
+    row: &Record,
+    given: &mut List<Record>,
+) -> Result<(), EvalFault>
+    requires { IsTrue (is_sound transform.now) }
+    ensures { Adds result (rows_for transform.now row.now) given.old given.new }
+{
+    match transform {
+        Transform::Map { out } => given.push(make_row(alloc, out.as_slice(), row)?)?,
+        Transform::Filter { cond } => {
+            if is_so(alloc, cond, row)? {
+                given.push(row.copy(alloc)?)?;
+            }
+        }
+        Transform::Emit { outs } => add_outputs(alloc, outs.as_slice(), row, given)?,
+        Transform::Words { field } => add_field_words(alloc, row.get(*field), given)?,
+        _ => given.push(row.copy(alloc)?)?,
+    }
+    Ok(())
+}
+
+/// The row of the values of `out` on a row, or the first fault.
+#[tactic(auto, using(crate::proofs::Rows::more))]
+fn make_row(alloc: Global, out: &[Expr], row: &Record) -> Result<Record, EvalFault>
+    requires some { 1 ≤ length out.now }
+    requires few { length out.now ≤ 16 }
+    ensures { Gives result (row_of out.now row.now) }
+{
+    let mut fields = List::with_capacity(alloc, out.len())?;
+    for expr in out {
+        fields.push(eval(alloc, expr, row)?)?;
+    }
+    match Record::new(fields) {
+        Ok(rec) => Ok(rec),
+        Err(_) => unreachable!(),
+    }
 }
 
 /// Whether a test isn't 0 on a row, or its fault.
@@ -46,109 +94,69 @@ fn is_so(alloc: Global, cond: &Expr, row: &Record) -> Result<bool, EvalFault>
     }
 }
 
-/// Of each row the rows of the outputs, or its first fault.
-pub(crate) fn emitted(alloc: Global, outs: &[Output], rows: &[Record]) -> Result<Applied, NoMemory>
+/// Puts the rows of the outputs on a row at the end. On a fault the others stay as they were.
+fn add_outputs(
+    alloc: Global,
+    outs: &[Output],
+    row: &Record,
+    given: &mut List<Record>,
+) -> Result<(), EvalFault>
     requires { IsTrue (list_all (λ o. is_few (length o.out)) outs.now) }
-    ensures rows { IfOk result (λ a. a.rows ≡ rows_in (answers (transform.Emit outs.now) rows.now [])) }
-    ensures faults { IfOk result (λ a. a.faults ≡ own_faults (answers (transform.Emit outs.now) rows.now [])) }
+    ensures { Adds result (emitted outs.now row.now) given.old given.new }
 {
-    let mut given = List::new(alloc);
-    let mut faults = Vec::new(alloc);
-    for row in rows {
-        match emit_row(alloc, outs, row) {
-            Ok(more) => add_rows(&mut given, more)?,
-            Err(EvalFault::Fault(kind)) => add_fault(alloc, &mut faults, kind, row)?,
-            Err(EvalFault::NoMemory) => return Err(NoMemory),
+    let count = given.len();
+    match push_outputs(alloc, outs, row, given) {
+        Ok(()) => Ok(()),
+        Err(fault) => {
+            given.truncate(count);
+            Err(fault)
         }
     }
-    Ok(Applied {
-        rows: given,
-        faults: in_order(alloc, faults)?,
-    })
 }
 
-/// The rows of the outputs on a row, or the first fault.
-fn emit_row(alloc: Global, outs: &[Output], row: &Record) -> Result<List<Record>, EvalFault>
+/// Puts the rows of the outputs on a row at the end, up to the first fault.
+fn push_outputs(
+    alloc: Global,
+    outs: &[Output],
+    row: &Record,
+    given: &mut List<Record>,
+) -> Result<(), EvalFault>
     requires { IsTrue (list_all (λ o. is_few (length o.out)) outs.now) }
-    ensures { Gives result (spec.emitted outs.now row.now) }
+    ensures { Puts result (emitted outs.now row.now) given.old given.new }
 {
-    let mut made = List::new(alloc);
     for output in outs {
         if is_so(alloc, &output.cond, row)? {
-            made.push(make_row(alloc, output.out.as_slice(), row)?)?;
+            given.push(make_row(alloc, output.out.as_slice(), row)?)?;
         }
-    }
-    Ok(made)
-}
-
-/// Puts more rows at the end.
-fn add_rows(given: &mut List<Record>, more: List<Record>) -> Result<(), NoMemory>
-    ensures { OnOk result (given.new ≡ given.old ++ more) }
-{
-    for row in more.into_vec() {
-        given.push(row)?;
     }
     Ok(())
 }
 
-/// Puts a fault that a row makes at the end.
-fn add_fault(
+/// Puts the words of a text field at the end, or answers the fault that there is none.
+fn add_field_words(
     alloc: Global,
-    faults: &mut Vec<Fault>,
-    kind: Kind,
-    row: &Record,
-) -> Result<(), NoMemory>
-    ensures { OnOk result (faults.new.items ≡ faults.old.items ++ record { kind = kind; rec = row.now } ∷ []) }
+    field: Option<&Field>,
+    given: &mut List<Record>,
+) -> Result<(), EvalFault>
+    ensures { Adds result (words_in (option_copied field.entry)) given.old given.new }
 {
-    faults.push(Fault {
-        kind,
-        rec: row.copy(alloc)?,
-    })?;
-    Ok(())
-}
-
-/// Of each row the words of the text at place `field`, each as a row of one field.
-pub(crate) fn worded(alloc: Global, field: u32, rows: &[Record]) -> Result<Applied, NoMemory>
-    ensures rows { IfOk result (λ a. a.rows ≡ rows_in (answers (transform.Words field) rows.now [])) }
-    ensures faults { IfOk result (λ a. a.faults ≡ own_faults (answers (transform.Words field) rows.now [])) }
-{
-    let mut given = List::new(alloc);
-    let mut faults = Vec::new(alloc);
-    for row in rows {
-        match row_words(alloc, field, row) {
-            Ok(more) => add_rows(&mut given, more)?,
-            Err(EvalFault::Fault(kind)) => add_fault(alloc, &mut faults, kind, row)?,
-            Err(EvalFault::NoMemory) => return Err(NoMemory),
-        }
-    }
-    Ok(Applied {
-        rows: given,
-        faults: in_order(alloc, faults)?,
-    })
-}
-
-/// The words of the text at place `field` of a row, or the fault that there is none.
-fn row_words(alloc: Global, field: u32, row: &Record) -> Result<List<Record>, EvalFault>
-    ensures { Gives result (spec.words_in (slice_get row.now field)) }
-{
-    match row.get(field) {
-        Some(Field::Text(text)) => Ok(text_words(alloc, text)?),
+    match field {
+        Some(Field::Text(text)) => Ok(add_words(alloc, text, given)?),
         Some(Field::Int(_)) => Err(EvalFault::Fault(Kind::Typed)),
         None => Err(EvalFault::Fault(Kind::NoField)),
     }
 }
 
-/// The non-empty pieces of a text between bytes 0x20, each as a row of one field.
-fn text_words(alloc: Global, text: &Text) -> Result<List<Record>, NoMemory>
-    ensures { IfOk result (λ words. words ≡ map (λ w. field.Text w ∷ []) (filter is_filled (pieces text.now))) }
+/// Puts the non-empty pieces of a text between bytes 0x20 at the end, each as a row of one field.
+fn add_words(alloc: Global, text: &Text, given: &mut List<Record>) -> Result<(), NoMemory>
+    ensures { OnOk result (given.new ≡ given.old ++ map (λ w. field.Text w ∷ []) (filter is_filled (pieces text.now))) }
 {
-    let mut words = List::new(alloc);
     for piece in text.as_str().split(' ') {
         if !piece.is_empty() {
-            words.push(word_row(alloc, piece)?)?;
+            given.push(word_row(alloc, piece)?)?;
         }
     }
-    Ok(words)
+    Ok(())
 }
 
 /// A row of one text.

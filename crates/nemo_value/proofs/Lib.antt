@@ -1,8 +1,14 @@
 pub mod AscendingLists
+pub mod AscendingParts
+pub mod JoinedLists
 pub mod KindPlaces
 pub mod LowHash
+pub mod MemberLists
 pub mod Members
 pub mod Numbers
 pub mod Perm
+pub mod Permuted
 pub mod RecordOrder
+pub mod SameText
 pub mod SortedLists
+pub mod Split

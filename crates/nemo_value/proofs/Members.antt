@@ -1,14 +1,7 @@
--- The members of a list.
-use Rattle.std.proofs.Common.{◌≡◌, List, [], ◌∷◌, inl, inr}
-use Rattle.std.specs.Prelude.{◌⊎◌, ◌↔◌}
+-- The members of permuted lists.
+pub use Rattle.nemo_value.specs.Members.{In, SameMembers}
+use Rattle.std.proofs.Common.{List, inl, inr}
 use Rattle.nemo_value.proofs.Perm.{Perm, none, keep, swap, then}
-
-abbrev pub In : {A : Type 0} → A → List A → Type 0
-In x [] = ⊥
-In x (y ∷ ys) = (x ≡ y) ⊎ In x ys
-
-pub record SameMembers {A : Type 0} (xs ys : List A) : Type 0 where
-  pub members : (x : A) → In x xs ↔ In x ys
 
 module _ {A : Type 0} where
   pub in_perm : (x : A) {xs ys : List A} → Perm xs ys → In x xs → In x ys

@@ -1,9 +1,10 @@
--- The order of fields is total.
-use Rattle.std.specs.Prelude.{◌≡◌, refl}
+-- The order of fields is total, and fields that tie are equal.
+use Rattle.std.specs.Prelude.{◌≡◌, refl, true}
 use Rattle.std.proofs.Common.{ap, sym, true≢false}
-use Rattle.std.specs.Cmp.{IsTotalOrder, int_cmp_total}
+use Rattle.std.specs.Cmp.{IsTotalOrder, int_cmp_total, Equal-is}
 use Rattle.std.specs.Cmp.Lexicographic.{nat_list_cmp_total}
-use Rattle.std.specs.Ordering.{ordering_reverse, is_lt, is_eq}
+use Rattle.std.specs.FinMap.{IsAntisymmetric, int_cmp-IsAntisymmetric, nat_cmp-IsAntisymmetric, slice_cmp-IsAntisymmetric}
+use Rattle.std.specs.Ordering.{ordering_reverse, eq_by_cmp, is_lt, is_eq}
 use Rattle.std.specs.declared.cmp.Ordering.TheVariants.{Less, Equal}
 use Rattle.nemo_value.specs.Order.{field_cmp}
 use Rattle.nemo_value.specs.declared.field.Field.{Field}
@@ -34,3 +35,13 @@ congr (Text s) (Text t) (Text u) p = nat_list_cmp_total.congr s t u p
 
 pub field_total : IsTotalOrder field_cmp
 field_total = record { antisymm = antisymm; trans = trans; congr = congr }
+
+pub field_one : IsAntisymmetric field_cmp
+field_one (Int x) (Int y) h = ap Int (int_cmp-IsAntisymmetric x y h)
+field_one (Int x) (Text t) h = absurd (true≢false (sym (ap is_eq h)))
+field_one (Text s) (Int y) h = absurd (true≢false (sym (ap is_eq h)))
+field_one (Text s) (Text t) h = ap Text (slice_cmp-IsAntisymmetric nat_cmp-IsAntisymmetric s t h)
+
+-- what is made of equal fields is equal
+pub made_alike : {X : Type 0} (f : Field → X) (x y : Field) → eq_by_cmp field_cmp x y ≡ true → f x ≡ f y
+made_alike f x y h = ap f (field_one x y ((Equal-is (field_cmp x y)).0 h))

@@ -1,8 +1,10 @@
 pub mod Answers
 pub mod Ascending
 pub mod Bucket
+pub mod Counted
 pub mod FieldOrder
 pub mod KindOrder
+pub mod Members
 pub mod Names
 pub mod Order
 pub mod Sorting

@@ -4,9 +4,10 @@ use crate::text::Text;
 use crate::try_copy::TryCopy;
 use std::alloc::Global;
 use std::cmp::Ordering;
+use std::hash::Hash;
 
 /// A whole number or a text. Numbers stand before texts, numbers by value, texts by bytes.
-#[derive(Debug, Drop)]
+#[derive(Debug, Hash, Drop)]
 pub enum Field {
     Int(i64),
     Text(Text),
@@ -41,8 +42,13 @@ impl PartialEq for Field {
 
     ghost laws = { partial_equiv_from_equiv (eq_by_cmp_equiv field_total) };
 
+    #[tactic(auto, using(crate::proofs::SameText::same_text))]
     fn eq(&self, other: &Field) -> bool {
-        self.cmp(other).is_eq()
+        match (self, other) {
+            (Field::Int(x), Field::Int(y)) => x == y,
+            (Field::Text(s), Field::Text(t)) => s == t,
+            _ => false,
+        }
     }
 }
 
@@ -89,4 +95,11 @@ impl Ord for Field {
             (Field::Text(s), Field::Text(t)) => s.cmp(t),
         }
     }
+}
+
+#[derived]
+impl Hash for Field {
+    ghost use Rattle.nemo_value.specs.FieldOrder.{made_alike};
+
+    ghost respects_eq = { made_alike _ };
 }

@@ -22,7 +22,7 @@ pub use field::Field;
 pub use list::List;
 pub use memory::NoMemory;
 pub use name::{Name, NameRefused};
-pub use record::{BadWidth, Record, SinkRows};
+pub use record::{BadWidth, MAX_FIELDS, Record, SinkRows};
 pub use same::Same;
 pub use sorting::{sort_law, sort_records};
 pub use sqlite_items::{Boxed, Items};

@@ -1,4 +1,4 @@
-ghost use Rattle.std.specs.Prelude.{◌≡◌, ◌<◌, [], ◌∷◌, ◌++◌, ◌↔◌, IsTrue, IfOk, OnOk, OnErr, length, slice_get, slice_set};
+ghost use Rattle.std.specs.Prelude.{◌≡◌, ◌<◌, [], ◌∷◌, ◌++◌, ◌↔◌, IsTrue, IfOk, OnOk, OnErr, length, take, slice_get, slice_set};
 ghost use Rattle.std.specs.Option.{option_copied};
 
 use crate::memory::NoMemory;
@@ -6,6 +6,7 @@ use crate::same::Same;
 use crate::try_copy::TryCopy;
 use std::alloc::Global;
 use std::cmp::Ordering;
+use std::hash::{Hash, Hasher};
 use std::marker::Model;
 
 /// A `Vec` that contracts see as the list of its items, so that equal lists are one value.
@@ -100,6 +101,15 @@ impl<T> List<T> {
         self.items.push(item)?;
         Ok(())
     }
+
+    /// Keeps the first `count` items.
+    pub fn truncate(&mut self, count: usize)
+    where
+        T: Drop,
+        ensures { self.new ≡ take count self.old }
+    {
+        self.items.truncate(count);
+    }
 }
 
 impl<T: TryCopy> List<T> {
@@ -184,5 +194,18 @@ impl<T: Ord> Ord for List<T> {
 
     fn cmp(&self, other: &List<T>) -> Ordering {
         self.items.cmp(&other.items)
+    }
+}
+
+impl<T: Hash> Hash for List<T> {
+    ghost use Rattle.std.specs.Hash as fed;
+    ghost use Rattle.std.specs.Hash.{items_Alike};
+
+    ghost hash_input = { fed.slice T.hash_input };
+
+    ghost respects_eq = { (items_Alike (record { fed = T.respects_eq })).fed };
+
+    fn hash<H: Hasher>(&self, state: &mut H) {
+        self.items.hash(state);
     }
 }

@@ -15,7 +15,7 @@ use std::marker::Model;
 pub const MAX_FIELDS: usize = 16;
 
 /// A record of 1 to 16 fields. Contracts see the list of its fields.
-#[derive(Debug, PartialEq, Eq, PartialOrd, Drop)]
+#[derive(Debug, PartialEq, Eq, PartialOrd, Hash, Drop)]
 pub struct Record {
     inner: List<Field>,
 }

@@ -6,6 +6,7 @@ use crate::same::Same;
 use crate::try_copy::TryCopy;
 use std::alloc::Global;
 use std::cmp::Ordering;
+use std::hash::{Hash, Hasher};
 use std::marker::Model;
 
 /// The most bytes of a text.
@@ -135,5 +136,19 @@ impl Ord for Text {
 
     fn cmp(&self, other: &Text) -> Ordering {
         self.inner.cmp(&other.inner)
+    }
+}
+
+impl Hash for Text {
+    ghost use Rattle.std.specs.Hash as fed;
+    ghost use Rattle.std.specs.Cmp.Rules.{hashing};
+    ghost use Rattle.std.proofs.Common.{rules};
+
+    ghost hash_input = { fed.str };
+
+    ghost respects_eq = { Prim.search (hashing, rules) };
+
+    fn hash<H: Hasher>(&self, state: &mut H) {
+        self.inner.hash(state);
     }
 }

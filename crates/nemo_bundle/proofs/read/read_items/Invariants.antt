@@ -1,6 +1,6 @@
 use Rattle.std.proofs.Common.{◌≡◌, drop}
 use Rattle.serde_json.specs.View.{items_view}
-use Rattle.nemo_bundle.specs.Read.{each}
+use Rattle.nemo_bundle.specs.Parts.{each}
 use Rattle.nemo_bundle.proofs.Fronts.{with_front}
 use Rattle.nemo_bundle.proofs.read.read_items.Given as goal
 

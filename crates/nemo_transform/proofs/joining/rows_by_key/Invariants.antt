@@ -1,6 +1,7 @@
 use Rattle.std.proofs.Common.{◌≡◌, [], map, take}
 use Rattle.std.specs.Option.{option_map_or}
-use Rattle.std.specs.BTreeMap.{get_by}
+use Rattle.std.specs.HashMap.{get_by}
+use Rattle.std.specs.Ordering.{is_eq}
 use Rattle.nemo_value.specs.Order.{field_cmp}
 use Rattle.nemo_value.specs.declared.field.Field.{Field}
 use Rattle.nemo_transform.specs.Gives.{with_key}
@@ -8,4 +9,4 @@ use Rattle.nemo_transform.proofs.joining.rows_by_key.Given as goal
 
 -- at each key the rows so far that have it
 abbrev pub invariant-loop-row : goal.invariant-loop-row
-invariant-loop-row l = (q : Field) → option_map_or (λ g. map (λ r. r.now) g.items) (get_by (λ k. field_cmp q k.now) l.by_key) [] ≡ with_key q (take l.row-index l.rows)
+invariant-loop-row l = (q : Field) → option_map_or (λ g. map (λ r. r.now) g.items) (get_by (λ k. is_eq (field_cmp q k.now)) l.by_key) [] ≡ with_key q (take l.row-index l.rows)

@@ -1,0 +1,115 @@
+-- Each vertex that is read fits, and each row of a source has a field.
+use Rattle.std.proofs.Common.{◌≡◌, refl, ℕ, ◌&&◌, List, [], ◌∷◌, length, Option, Some, None, option_map, Bool, true, codes}
+use Rattle.std.proofs.lemmas.Bool.{eq-eqb}
+use Rattle.std.proofs.lemmas.Cmp.{nat_list_eq_equiv}
+use Rattle.std.specs.List.{list_all}
+use Rattle.serde_json.specs.Data.{Data}
+use Rattle.serde_json.specs.Find.{as_str}
+use Rattle.nemo_value.specs.Texts.{same_text}
+use Rattle.nemo_value.specs.declared.expr.Expr.{Expr}
+use Rattle.nemo_transform.specs.Gives.{is_filled}
+use Rattle.nemo_transform.specs.declared.transform.Folding.{Folding}
+use Rattle.nemo_transform.specs.declared.transform.Folding.TheVariants.{Sum, Min, Max, Count}
+use Rattle.nemo_transform.specs.declared.transform.Output.{Output}
+use Rattle.nemo_transform.specs.declared.transform.Transform.{Transform}
+use Rattle.nemo_transform.specs.declared.transform.Transform.TheVariants.{Source, Map, Filter, Emit, Words, Reduce, Sink}
+use Rattle.nemo_job.specs.Chain.{has_fields, rows_filled}
+use Rattle.nemo_job.specs.Fitting.{are_fitting, fits, is_fitting}
+use Rattle.nemo_job.specs.declared.vertex.JobVertex.{JobVertex}
+use Rattle.nemo_job.specs.declared.vertex.Ref.{Ref}
+use Rattle.nemo_job.specs.declared.vertex.Work.TheVariants.{Op}
+use Rattle.nemo_bundle.specs.Exprs.{expr_of}
+use Rattle.nemo_bundle.specs.Parts.{array_of, member_of, tested, is_few, field_of, record_of, name_of}
+use Rattle.nemo_bundle.specs.Vertices.{few_of, inputs_of, output_of, output_with, own_place, reduce_by, reduce_of, transform_by, transform_of, vertex_with, vertex_named, vertex_of}
+use Rattle.nemo_bundle.proofs.Passing.{passes, true_passes, if_passes, map_passes, then_passes, array_passes, first_passes, second_passes, tested_passes}
+
+few_filled : {X : Type 0} (o : Option (List X)) → passes is_filled (tested is_few o) ≡ true
+few_filled None = refl
+few_filled (Some []) = refl
+few_filled (Some (x ∷ xs)) = if_passes is_filled (is_few (x ∷ xs)) (Some (x ∷ xs)) None refl refl
+
+-- the member has 1 to 16 things
+few_are : {X : Type 0} (reads : Data → Option X) (name : List ℕ) (d : Data) → passes is_few (few_of name reads d) ≡ true
+few_are reads name d =
+    let things = member_of name (array_of reads) d in
+    first_passes is_few (λ _. true) (few_of name reads d) (tested_passes is_few (λ _. true) things (true_passes things))
+
+-- 1 to 16 expressions
+abbrev is_short : Output → Bool
+is_short o = is_few o.out
+
+with_short : (cond : Option Expr) (out : Option (List Expr)) → passes is_few out ≡ true → passes is_short (output_with cond out) ≡ true
+with_short (Some cond) (Some out) h = h
+with_short (Some cond) None h = refl
+with_short None out h = refl
+
+output_short : (d : Data) → passes is_short (output_of d) ≡ true
+output_short d = with_short (member_of (codes "if") expr_of d) (few_of (codes "out") expr_of d) (few_are expr_of (codes "out") d)
+
+-- whether the rows of a transform have fields, and it fits a vertex of this name and of n inputs
+abbrev is_right : List ℕ → ℕ → Transform → Bool
+is_right name n t = rows_filled (Op t) && fits name n (Op t)
+
+source_right : (name : List ℕ) (n : ℕ) (rows : Option (List (List _))) → passes (list_all is_filled) rows ≡ true → passes (λ rows. is_right name n (Source rows)) rows ≡ true
+source_right name n (Some rows) h = rw h refl
+source_right name n None h = refl
+
+by_right : (name : List ℕ) (n : ℕ) (d : Data) (by : Folding) → passes (is_right name n) (reduce_by d by) ≡ true
+by_right name n d Sum = map_passes (is_right name n) (Reduce Sum) (own_place d) (true_passes (own_place d))
+by_right name n d Min = map_passes (is_right name n) (Reduce Min) (own_place d) (true_passes (own_place d))
+by_right name n d Max = map_passes (is_right name n) (Reduce Max) (own_place d) (true_passes (own_place d))
+by_right name n d Count = refl
+
+reduce_right : (name : List ℕ) (n : ℕ) (d : Data) → passes (is_right name n) (reduce_of d) ≡ true
+reduce_right name n d = then_passes (is_right name n) (reduce_by d) _ (by_right name n d)
+
+rows_right : (name : List ℕ) (n : ℕ) (d : Data) → passes (is_right name n) (option_map Source (member_of (codes "rows") (array_of record_of) d)) ≡ true
+rows_right name n d =
+    let rows = member_of (codes "rows") (array_of record_of) d in
+    map_passes (is_right name n) Source rows
+    (source_right name n rows (array_passes record_of is_filled (λ e. few_filled (array_of field_of e)) (codes "rows") d))
+
+outs_right : (name : List ℕ) (n : ℕ) (d : Data) → passes (is_right name n) (option_map Emit (few_of (codes "outs") output_of d)) ≡ true
+outs_right name n d =
+    let outs = member_of (codes "outs") (array_of output_of) d in
+    map_passes (is_right name n) Emit (few_of (codes "outs") output_of d)
+    (tested_passes is_few (list_all is_short) outs (array_passes output_of is_short output_short (codes "outs") d))
+
+by_op_right : (name : List ℕ) (n : ℕ) (d : Data) (op : List ℕ) → passes (is_right name n) (transform_by name n d op) ≡ true
+by_op_right name n d op =
+    let right = is_right name n in
+    let cond = member_of (codes "if") expr_of d in
+    if_passes right (same_text op (codes "source")) _ _ (rows_right name n d)
+    (if_passes right (same_text op (codes "map")) _ _ (map_passes right Map (few_of (codes "out") expr_of d) (few_are expr_of (codes "out") d))
+    (if_passes right (same_text op (codes "filter")) _ _ (map_passes right Filter cond (true_passes cond))
+    (if_passes right (same_text op (codes "emit")) _ _ (outs_right name n d)
+    (if_passes right (same_text op (codes "words")) _ _ (map_passes right Words (own_place d) (true_passes (own_place d)))
+    (if_passes right (same_text op (codes "union")) _ _ (eq-eqb n n refl)
+    (if_passes right (same_text op (codes "reduce")) _ _ (reduce_right name n d)
+    (if_passes right (same_text op (codes "distinct")) _ _ refl
+    (if_passes right (same_text op (codes "join")) _ _ refl
+    (if_passes right (same_text op (codes "sidejoin")) _ _ refl
+    (if_passes right (same_text op (codes "sink")) (Some (Sink name)) None (nat_list_eq_equiv.refl name) refl))))))))))
+
+-- whether the rows of a vertex have fields, and it fits
+abbrev is_good : JobVertex → Bool
+is_good v = has_fields v && is_fitting v
+
+with_good : (name : List ℕ) (inputs : List Ref) (t : Option Transform) → passes (is_right name (length inputs)) t ≡ true → passes is_good (vertex_with name inputs t) ≡ true
+with_good name inputs (Some t) h = h
+with_good name inputs None h = refl
+
+vertex_good : (d : Data) → passes is_good (vertex_of d) ≡ true
+vertex_good d =
+    then_passes is_good (vertex_named d) (member_of (codes "name") name_of d)
+    (λ name. then_passes is_good (λ inputs. vertex_with name inputs (transform_of name (length inputs) d)) (inputs_of d)
+    (λ inputs. with_good name inputs (transform_of name (length inputs) d)
+    (then_passes (is_right name (length inputs)) (transform_by name (length inputs) d) (member_of (codes "op") as_str d) (by_op_right name (length inputs) d))))
+
+-- the rows of the vertices of a job have fields
+pub job_filled : (d : Data) (vs : List JobVertex) → member_of (codes "job") (array_of vertex_of) d ≡ Some vs → list_all has_fields vs ≡ true
+job_filled d vs e = rw e at (array_passes vertex_of has_fields (λ v. first_passes has_fields is_fitting (vertex_of v) (vertex_good v)) (codes "job") d)
+
+-- the vertices of a job fit
+pub job_fits : (d : Data) (vs : List JobVertex) → member_of (codes "job") (array_of vertex_of) d ≡ Some vs → are_fitting vs ≡ true
+job_fits d vs e = rw e at (array_passes vertex_of is_fitting (λ v. second_passes has_fields is_fitting (vertex_of v) (vertex_good v)) (codes "job") d)

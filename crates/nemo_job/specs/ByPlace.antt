@@ -1,0 +1,60 @@
+-- What each vertex of a job without loops gives, with vertices named by their places.
+use Rattle.std.specs.Prelude.{ℕ, List, [], ◌∷◌, ◌++◌, length, map, slice_get, position, Option, Some, None}
+use Rattle.std.specs.List.{filter_map}
+use Rattle.std.specs.Ordering.{nat_cmp, ordering_then}
+use Rattle.std.specs.declared.cmp.Ordering.{Ordering}
+use Rattle.nemo_value.specs.Ascending.{ascending}
+use Rattle.nemo_value.specs.KindOrder.{kind_cmp}
+use Rattle.nemo_value.specs.Order.{record_cmp}
+use Rattle.nemo_value.specs.Texts.{same_text}
+use Rattle.nemo_transform.specs.Brought.{Arisen, Brought, port, at}
+use Rattle.nemo_transform.specs.declared.transform.Transform.{Transform}
+use Rattle.nemo_job.specs.Chain.{names_of}
+use Rattle.nemo_job.specs.declared.vertex.JobVertex.{JobVertex}
+use Rattle.nemo_job.specs.declared.vertex.Ref.{Ref}
+use Rattle.nemo_job.specs.declared.vertex.Work.{Work}
+use Rattle.nemo_job.specs.declared.vertex.Work.TheVariants.{Op}
+
+-- what a port brings, in which a vertex is named by its place
+abbrev pub ByPlace : Type 0
+ByPlace = Brought ℕ
+
+-- a vertex as its transform and the places of the vertices that its ports take
+pub record Placed : Type 0 where
+  pub transform : Transform
+  pub inputs : List ℕ
+
+-- the place of the first vertex of a name
+abbrev pub place_of_name : List (List ℕ) → List ℕ → Option ℕ
+place_of_name names name = position (same_text name) names
+
+abbrev pub inputs_at : List (List ℕ) → List Ref → List ℕ
+inputs_at names rs = filter_map (λ r. place_of_name names r.name) rs
+
+abbrev pub placed_work : List ℕ → Work → Option Placed
+placed_work inputs (Op t) = Some (record { transform = t; inputs = inputs })
+placed_work inputs _ = None
+
+-- the vertices by their places, of a list without loops
+abbrev pub placed : List JobVertex → List Placed
+placed vs = filter_map (λ v. placed_work (inputs_at (names_of vs) v.inputs) v.work) vs
+
+-- what a vertex gives on what those before it give
+abbrev pub value_after : List ByPlace → Placed → ByPlace
+value_after done p = at (length done) p.transform (map (port done) p.inputs)
+
+abbrev pub values_from : List ByPlace → List Placed → List ByPlace
+values_from done [] = done
+values_from done (p ∷ ps) = values_from (done ++ value_after done p ∷ []) ps
+
+-- what each vertex gives
+abbrev pub values : List Placed → List ByPlace
+values ps = values_from [] ps
+
+-- by the place where it arose, and then by kind and record
+abbrev pub place_cmp : Arisen ℕ → Arisen ℕ → Ordering
+place_cmp a b = ordering_then (nat_cmp a.vertex b.vertex) (ordering_then (kind_cmp a.kind b.kind) (record_cmp a.rec b.rec))
+
+-- the first of some faults
+abbrev pub first_fault : List (Arisen ℕ) → Option (Arisen ℕ)
+first_fault faults = slice_get (ascending place_cmp faults) 0

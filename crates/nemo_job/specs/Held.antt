@@ -1,0 +1,111 @@
+-- What an evaluation holds of what its vertices gave.
+use Rattle.std.specs.Prelude.{◌≡◌, ◌≤◌, ◌<◌, ℕ, List, [], ◌∷◌, ◌++◌, length, map, slice_get, Option, Some, None, option_map, option_to_list, Bool, true, false, if◌then◌else◌}
+use Rattle.std.specs.Cow.{cow_slice_items}
+use Rattle.std.specs.Ordering.{is_lt}
+use Rattle.std.specs.declared.cmp.Ordering.{Ordering}
+use Rattle.nemo_transform.specs.Brought.{Arisen, port, at, first_rows, second_rows}
+use Rattle.nemo_transform.specs.Gives.{Row, Answer, answers}
+use Rattle.nemo_transform.specs.Ports.{kinds_of}
+use Rattle.nemo_transform.specs.Soundness.{is_sound}
+use Rattle.nemo_transform.specs.declared.transform.Transform.{Transform}
+use Rattle.nemo_transform.specs.declared.transform.Transform.TheVariants.{Sink}
+use Rattle.nemo_job.specs.ByPlace.{ByPlace, Placed, first_fault}
+use Rattle.nemo_value.specs.Order.{record_cmp}
+use Rattle.nemo_value.specs.Sorting.{sorted}
+use Rattle.nemo_value.specs.declared.record.SinkRows.{SinkRows}
+use Rattle.nemo_job.specs.declared.held.Held.{Held}
+use Rattle.nemo_job.specs.declared.held.Located.{Located}
+use Rattle.nemo_job.specs.declared.places.Node.{Node}
+
+-- a vertex without references to its parts
+abbrev pub node_of : Node → Placed
+node_of n = record { transform = n.transform.now; inputs = n.inputs }
+
+abbrev pub arisen_at : Located → Arisen ℕ
+arisen_at l = record { vertex = l.place; kind = l.kind; rec = l.rec }
+
+-- rows, and the first fault that comes with them
+pub record Known : Type 0 where
+  pub rows : List Row
+  pub first : Option (Arisen ℕ)
+
+abbrev pub known : Held → Known
+known h = record { rows = cow_slice_items h.rows; first = option_map arisen_at h.first }
+
+abbrev pub known_value : ByPlace → Known
+known_value f = record { rows = f.rows; first = first_fault f.faults }
+
+-- the lesser of two that may be there, and the first where they tie
+abbrev pub lesser : {X : Type 0} → (X → X → Ordering) → Option X → Option X → Option X
+lesser R None b = b
+lesser R (Some x) None = Some x
+lesser R (Some x) (Some y) = if is_lt (R y x) then Some y else Some x
+
+-- the answers of a vertex on what the vertices gave
+abbrev pub answers_at : List ByPlace → Placed → List Answer
+answers_at vals p = answers p.transform (first_rows p.transform (map (port vals) p.inputs)) (second_rows (map (port vals) p.inputs))
+
+-- what the vertex of a place gives on what the vertices gave
+abbrev pub value_at : List ByPlace → ℕ → Placed → ByPlace
+value_at vals place p = at place p.transform (map (port vals) p.inputs)
+
+abbrev pub does_sink : Transform → Bool
+does_sink (Sink name) = true
+does_sink _ = false
+
+-- the vertex of a place takes none but vertices before it
+abbrev pub IsLower : List Placed → Type 0
+IsLower ps = (i : ℕ) (p : Placed) (k j : ℕ) → slice_get ps i ≡ Some p → slice_get p.inputs k ≡ Some j → j < i
+
+-- the vertices of a job by their places
+pub record IsPlaced (ps : List Placed) : Type 0 where
+  pub lower : IsLower ps
+  pub ports : (i : ℕ) (p : Placed) → slice_get ps i ≡ Some p → length p.inputs ≡ length (kinds_of p.transform)
+  pub sound : (i : ℕ) (p : Placed) → slice_get ps i ≡ Some p → is_sound p.transform ≡ true
+
+-- For each vertex that reaches a sink the last vertex that takes what it gives, and for a sink the number of all
+-- vertices: what reaches a sink takes only what reaches a sink, and is not after the last that takes it.
+pub record IsLast (ps : List Placed) (last : List (Option ℕ)) : Type 0 where
+  pub size : length last ≡ length ps
+  pub sinks : (i : ℕ) (p : Placed) → slice_get ps i ≡ Some p → does_sink p.transform ≡ true → slice_get last i ≡ Some (Some (length ps))
+  pub inputs : (i : ℕ) (p : Placed) (k j u : ℕ) → slice_get ps i ≡ Some p → slice_get p.inputs k ≡ Some j → slice_get last i ≡ Some (Some u) → (w : ℕ) × (slice_get last j ≡ Some (Some w)) × (i ≤ w)
+
+-- Before the vertex of a place, what each vertex that reaches a sink gave is held: its first fault, and its rows as
+-- long as they are taken.
+pub record IsHeld (vals : List ByPlace) (last : List (Option ℕ)) (place : ℕ) (held : List Known) : Type 0 where
+  pub size : length held ≡ place
+  pub first : (k u : ℕ) (h : Known) → slice_get held k ≡ Some h → slice_get last k ≡ Some (Some u) → h.first ≡ first_fault (port vals k).faults
+  pub rows : (k u : ℕ) (h : Known) → slice_get held k ≡ Some h → slice_get last k ≡ Some (Some u) → place ≤ u → h.rows ≡ (port vals k).rows
+
+-- what the inputs gave is held
+abbrev pub Feeds : List ByPlace → List Known → List ℕ → Type 0
+Feeds vals held inputs = map (slice_get held) inputs ≡ map (λ j. Some (known_value (port vals j))) inputs
+
+-- Rows may have been let go where the vertex of this place is the last that takes them, and nothing else changed.
+pub record IsReleased (last : List (Option ℕ)) (place : ℕ) (old new : List Known) : Type 0 where
+  pub size : length new ≡ length old
+  pub first : map (λ h. h.first) new ≡ map (λ h. h.first) old
+  pub rows : (k : ℕ) → ¬ (slice_get last k ≡ Some (Some place)) → slice_get new k ≡ slice_get old k
+
+---- what the sinks get
+
+-- what each sink gave is held
+pub record IsGiven (ps : List Placed) (vals : List ByPlace) (held : List Known) : Type 0 where
+  pub size : length held ≡ length ps
+  pub sinks : (k : ℕ) (p : Placed) → slice_get ps k ≡ Some p → does_sink p.transform ≡ true → slice_get held k ≡ Some (known_value (port vals k))
+
+abbrev pub sink_at : Transform → ByPlace → Option SinkRows
+sink_at (Sink name) f = Some (record { name = name; rows = sorted record_cmp f.rows })
+sink_at _ f = None
+
+-- the sinks with their rows in order, in list order
+abbrev pub sinks_given : List Placed → List ByPlace → List SinkRows
+sinks_given [] fs = []
+sinks_given (p ∷ ps) [] = []
+sinks_given (p ∷ ps) (f ∷ fs) = option_to_list (sink_at p.transform f) ++ sinks_given ps fs
+
+-- the faults that reach them
+abbrev pub faults_given : List Placed → List ByPlace → List (Arisen ℕ)
+faults_given [] fs = []
+faults_given (p ∷ ps) [] = []
+faults_given (p ∷ ps) (f ∷ fs) = (if does_sink p.transform then f.faults else []) ++ faults_given ps fs

@@ -1,0 +1,8 @@
+use Rattle.nemo_transform.proofs.TaskLaws.{task_all, task_main}
+use Rattle.nemo_transform.proofs.laws.task_law.Goals as goal
+
+pub returns : goal.returns
+returns c = record {
+  main = task_main;
+  all = λ name task n x t gots wholes source some low. task_all name n task x some low t gots wholes source;
+}

@@ -1,7 +1,0 @@
-use Rattle.std.proofs.Common.{◌≡◌, map}
-use Rattle.nemo_transform.proofs.WordPieces.{word_rows}
-use Rattle.nemo_transform.proofs.rowwise.text_words.Given as goal
-
--- the filled pieces so far, each as a row
-abbrev pub invariant-loop-piece : goal.invariant-loop-piece
-invariant-loop-piece l = l.words ≡ word_rows (map (λ piece. piece.now) l.yielded)
