@@ -49,9 +49,11 @@ impl From<NoMemory> for JobRefused {
 }
 
 impl Job {
-    /// The vertices as a job. Refused are, the first code that fails anywhere with its least place: a name that a
-    /// vertex before has (3), an input that names nothing, a sink, or a port that isn't there (4), an input that names
-    /// the vertex itself or a later one (5), another number of inputs than of ports (6), and no sink at all (8, at 0).
+    /// The vertices as a job. They have to be fitting: for now no loops, a union with as many ports as inputs, a sink
+    /// with its vertex's name, and any other transform sound. Refused is the first code that fails anywhere, with its
+    /// least place, counted from 0: a name that a vertex before has (3), an input that names nothing, a sink, or a port
+    /// that isn't there (4), an input that names the vertex itself or a later one (5), another number of inputs than of
+    /// ports (6), and no sink at all (8, at 0).
     pub fn new(alloc: Global, vertices: Vec<JobVertex>) -> Result<Job, JobRefused>
         requires { are_fitting vertices.items ≡ true }
         ensures ok { IfOk result (λ job. job ≡ vertices.items) }

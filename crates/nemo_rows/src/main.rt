@@ -1,5 +1,6 @@
 //! Runs the rows of a table, which is read from standard input as JSON, through the top call and the library, and
-//! prints each row that differs, and how many did. What is expected comes from the rules, worked out by hand.
+//! prints each row that differs, and how many did. What is expected comes from the rules, worked out by hand or by a
+//! model of its own, never from this program.
 #![tactic(auto)]
 
 mod calls;
