@@ -22,7 +22,7 @@ impl FromJson for Field {
             return Ok(Field::Int(n));
         }
         let text = value.as_str().ok_or(UNSERVED)?;
-        let text = Text::new(owned(alloc, text)?).map_err(|_| UNSERVED)?;
+        let text = Text::from_str(alloc, text)?.ok_or(UNSERVED)?;
         Ok(Field::Text(text))
     }
 }

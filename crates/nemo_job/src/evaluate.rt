@@ -79,9 +79,9 @@ fn end_at(alloc: Global, vertices: &[JobVertex], fault: Located) -> Result<JobEn
 pub fn path_of(alloc: Global, name: &Name) -> Result<Text, NoMemory>
     ensures { IfOk result (λ path. path ≡ name.now) }
 {
-    match Text::new(String::from_str(alloc, name.as_str())?) {
-        Ok(path) => Ok(path),
-        Err(_) => unreachable!(),
+    match Text::from_str(alloc, name.as_str())? {
+        Some(path) => Ok(path),
+        None => unreachable!(),
     }
 }
 

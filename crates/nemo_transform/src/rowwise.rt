@@ -164,7 +164,7 @@ fn word_row(alloc: Global, word: &str) -> Result<Record, NoMemory>
     requires { length word.now ≤ 65535 }
     ensures { IfOk result (λ r. r ≡ field.Text word.now ∷ []) }
 {
-    let Ok(text) = Text::new(String::from_str(alloc, word)?) else {
+    let Some(text) = Text::from_str(alloc, word)? else {
         unreachable!()
     };
     let mut fields = List::with_capacity(alloc, 1)?;

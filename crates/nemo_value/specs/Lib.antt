@@ -8,5 +8,6 @@ pub mod Members
 pub mod Names
 pub mod Order
 pub mod Sorting
+pub mod TextBytes
 pub mod Texts
 pub mod Val

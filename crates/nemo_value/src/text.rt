@@ -1,9 +1,11 @@
-ghost use Rattle.std.specs.Prelude.{◌≡◌, ◌≤◌, ◌↔◌, length, string_bytes, IsOk, IfOk, IfErr, IsUtf8};
+ghost use Rattle.std.specs.Prelude.{◌≡◌, ◌≤◌, ◌↔◌, ◌+◌, ◌++◌, length, nat_le, string_bytes, IsOk, IfOk, IfErr, IsUtf8, if◌then◌else◌, Some, None};
+ghost use Rattle.nemo_value.specs.TextBytes.{bytes_in};
 ghost use Rattle.nemo_value.specs.Texts.{joined};
 
 use crate::memory::NoMemory;
 use crate::same::Same;
 use crate::try_copy::TryCopy;
+use arrayvec::ArrayString;
 use std::alloc::Global;
 use std::cmp::Ordering;
 use std::hash::{Hash, Hasher};
@@ -12,20 +14,31 @@ use std::marker::Model;
 /// The most bytes of a text.
 pub const MAX_TEXT: usize = 65_535;
 
-/// A text of at most 65,535 bytes. Contracts see its bytes.
+/// The most bytes of a text that takes no memory.
+const SHORT: usize = 16;
+
+/// Where the bytes of a text are: in the value itself, or behind a pointer.
+#[derive(Debug, Drop)]
+enum Bytes {
+    Short(ArrayString<16>),
+    Long(String),
+}
+
+/// A text of at most 65,535 bytes; one of at most 16 takes no memory. Contracts see its bytes.
 #[derive(Debug, Drop)]
 pub struct Text {
-    inner: String,
+    inner: Bytes,
 }
 
 impl Model for Text {
-    ghost use Rattle.std.specs.Prelude.{ℕ, List, string_bytes, length, ◌≤◌};
+    ghost use Rattle.std.specs.Prelude.{ℕ, List, length, ◌≤◌};
+    ghost use Rattle.nemo_value.specs.TextBytes.{bytes_in};
 
     ghost Value = { List ℕ };
 
-    ghost view = { λ t. string_bytes t.inner };
+    ghost view = { λ t. bytes_in t.inner };
 
-    ghost invariant = { λ t. length (string_bytes t.inner) ≤ 65535 };
+    ghost invariant = { λ t. length (bytes_in t.inner) ≤ 65535 };
 }
 
 /// A text has `count` bytes, which are too many.
@@ -46,7 +59,19 @@ impl Text {
                 count: s.len() as u64,
             });
         }
-        Ok(Text { inner: s })
+        Ok(Text { inner: bytes_of(s) })
+    }
+
+    /// A copy of the string as a text; nothing exactly where it is longer than 65,535 bytes.
+    pub fn from_str(alloc: Global, s: &str) -> Result<Option<Text>, NoMemory>
+        ensures { IfOk result (λ text. text ≡ (if nat_le (length s.now) 65535 then Some s.now else None)) }
+    {
+        if s.len() > MAX_TEXT {
+            return Ok(None);
+        }
+        Ok(Some(Text {
+            inner: copied(alloc, s)?,
+        }))
     }
 
     pub fn as_str(&self) -> &str
@@ -54,29 +79,79 @@ impl Text {
         ensures fits { length self.now ≤ 65535 }
         ensures utf8 { IsUtf8 self.now }
     {
-        self.inner.as_str()
+        match &self.inner {
+            Bytes::Short(short) => short.as_str(),
+            Bytes::Long(long) => long.as_str(),
+        }
     }
 
     /// This text and then the other, or nothing where they are too long for one text.
     pub fn join(&self, alloc: Global, other: &Text) -> Result<Option<Text>, NoMemory>
         ensures { IfOk result (λ text. text ≡ joined self.now other.now) }
     {
-        let size = self.inner.len() + other.inner.len();
+        let (first, second) = (self.as_str(), other.as_str());
+        let size = first.len() + second.len();
         if size > MAX_TEXT {
             return Ok(None);
         }
-        let mut inner = String::with_capacity(alloc, size)?;
-        inner.push_str(self.inner.as_str())?;
-        inner.push_str(other.inner.as_str())?;
+        let inner = if size <= SHORT {
+            Bytes::Short(short_joined(first, second))
+        } else {
+            Bytes::Long(long_joined(alloc, first, second)?)
+        };
         Ok(Some(Text { inner }))
     }
 }
 
+/// The string, in the value itself where it is short.
+fn bytes_of(s: String) -> Bytes
+    ensures { bytes_in result ≡ string_bytes s }
+{
+    match ArrayString::from(s.as_str()) {
+        Ok(short) => Bytes::Short(short),
+        Err(_) => Bytes::Long(s),
+    }
+}
+
+/// A copy of the string, in the value itself where it is short.
+fn copied(alloc: Global, s: &str) -> Result<Bytes, NoMemory>
+    ensures { IfOk result (λ bytes. bytes_in bytes ≡ s.now) }
+{
+    match ArrayString::from(s) {
+        Ok(short) => Ok(Bytes::Short(short)),
+        Err(_) => Ok(Bytes::Long(String::from_str(alloc, s)?)),
+    }
+}
+
+/// Both strings, one after the other, where they are short.
+fn short_joined(a: &str, b: &str) -> ArrayString<16>
+    requires { (length a.now + length b.now) ≤ 16 }
+    ensures { result.bytes ≡ a.now ++ b.now }
+{
+    let mut short = ArrayString::new();
+    short.push_str(a);
+    short.push_str(b);
+    short
+}
+
+/// Both strings, one after the other.
+fn long_joined(alloc: Global, a: &str, b: &str) -> Result<String, NoMemory>
+    requires { (length a.now + length b.now) ≤ 65535 }
+    ensures { IfOk result (λ s. string_bytes s ≡ a.now ++ b.now) }
+{
+    let mut long = String::with_capacity(alloc, a.len() + b.len())?;
+    long.push_str(a)?;
+    long.push_str(b)?;
+    Ok(long)
+}
+
 impl TryCopy for Text {
     fn copy(&self, alloc: Global) -> Result<Text, NoMemory> {
-        Ok(Text {
-            inner: String::from_str(alloc, self.inner.as_str())?,
-        })
+        let inner = match &self.inner {
+            Bytes::Short(short) => Bytes::Short(*short),
+            Bytes::Long(long) => Bytes::Long(String::from_str(alloc, long.as_str())?),
+        };
+        Ok(Text { inner })
     }
 }
 
@@ -96,7 +171,7 @@ impl PartialEq for Text {
     ghost laws = { partial_equiv_from_equiv nat_list_eq_equiv };
 
     fn eq(&self, other: &Text) -> bool {
-        self.inner == other.inner
+        self.as_str() == other.as_str()
     }
 }
 
@@ -135,7 +210,7 @@ impl Ord for Text {
     ghost matches_eq = { texts_ties };
 
     fn cmp(&self, other: &Text) -> Ordering {
-        self.inner.cmp(&other.inner)
+        self.as_str().cmp(other.as_str())
     }
 }
 
@@ -149,6 +224,6 @@ impl Hash for Text {
     ghost respects_eq = { Prim.search (hashing, rules) };
 
     fn hash<H: Hasher>(&self, state: &mut H) {
-        self.inner.hash(state);
+        self.as_str().hash(state);
     }
 }
