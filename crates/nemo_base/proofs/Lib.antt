@@ -1,1 +1,2 @@
 mod EvenCuts
+pub mod NewCuts

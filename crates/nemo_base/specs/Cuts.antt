@@ -1,5 +1,5 @@
 -- Lists of cuts, which deal the buckets 0 to 255 to tasks.
-use Rattle.std.specs.Prelude.{◌≡◌, ◌≤◌, ◌++◌, length, replicate, take, ℕ, ◌*◌, ◌-◌, List, map}
+use Rattle.std.specs.Prelude.{◌≡◌, ◌≤◌, ◌++◌, ◌+◌, ◌&&◌, length, replicate, take, ℕ, ◌*◌, ◌-◌, List, [], ◌∷◌, map, nat_le, nat_lt, Option, Some, None, if◌then◌else◌}
 use Rattle.std.specs.List.{range_with_len}
 use Rattle.std.specs.Int.{div_ceil}
 
@@ -19,3 +19,8 @@ pub record AreCuts (places : List ℕ) (count : ℕ) : Type 0 where
   pub few : count ≤ 63
   pub counted : length (take count places) ≡ count
   pub rest : padded (take count places) ≡ places
+
+-- the place, counted from i, of the first entry that is the 64th, exceeds 256, or is less than the one before it
+abbrev pub bad_cut : ℕ → ℕ → List ℕ → Option ℕ
+bad_cut i before [] = None
+bad_cut i before (cut ∷ cuts) = if nat_lt i 63 && nat_le cut 256 && nat_le before cut then bad_cut (i + 1) cut cuts else Some i

@@ -1,5 +1,5 @@
-ghost use Rattle.std.specs.Prelude.{◌≡◌, ◌≤◌};
-ghost use Rattle.nemo_base.specs.Cuts.{even_cuts};
+ghost use Rattle.std.specs.Prelude.{◌≡◌, ◌≤◌, Some, None, IfErr, IfOk, OnOk};
+ghost use Rattle.nemo_base.specs.Cuts.{bad_cut, even_cuts};
 
 use nemo_value::Same;
 use std::marker::Model;
@@ -30,7 +30,39 @@ impl Model for Cuts {
     ghost inverse_ok = { λ c h i. record { places = h.rest i; count = h.counted i } };
 }
 
+/// A list is no cuts: `place` is that of the first entry, counted from 0, that is one too many, exceeds 256, or falls.
+#[derive(Clone, Copy, Debug, PartialEq, Eq)]
+pub struct CutsRefused {
+    pub place: u64,
+}
+
+/// The most that a cut can be: the number of buckets.
+const MAX_CUT: u16 = 256;
+
 impl Cuts {
+    /// The list as cuts: at most 63 numbers up to 256 that never fall.
+    pub fn new(list: &[u16]) -> Result<Cuts, CutsRefused>
+        ensures ok { IfOk result (λ cuts. cuts ≡ list.now) }
+        ensures fits { OnOk result (bad_cut 0 0 list.now ≡ None) }
+        ensures err { IfErr result (λ e. bad_cut 0 0 list.now ≡ Some e.place) }
+    {
+        let mut places = [0; MAX_CUTS];
+        let mut before = 0;
+        for (place, cut) in list.iter().enumerate() {
+            if place >= MAX_CUTS || *cut > MAX_CUT || *cut < before {
+                return Err(CutsRefused {
+                    place: place as u64,
+                });
+            }
+            places[place] = *cut;
+            before = *cut;
+        }
+        Ok(Cuts {
+            places,
+            count: list.len(),
+        })
+    }
+
     /// The cuts that deal the buckets evenly to `n` tasks.
     pub fn even(n: u32) -> Cuts
         requires some { 1 ≤ n }

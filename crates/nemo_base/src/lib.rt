@@ -5,15 +5,17 @@ mod annotation;
 mod cuts;
 mod graph;
 mod id;
+mod moves;
 mod script;
 mod settings;
 mod soundness;
 mod why;
 
 pub use annotation::{Class, Flow, Keep, Pattern, Policy};
-pub use cuts::Cuts;
+pub use cuts::{Cuts, CutsRefused};
 pub use graph::{Home, Read, StageRow, TaskGraph, VertexRow};
 pub use id::{BlockId, TaskId};
+pub use moves::Move;
 pub use script::{Action, ScriptLine};
 pub use settings::Settings;
 pub use why::Why;
