@@ -1,5 +1,5 @@
--- Each vertex that is read fits, and each row of a source has a field.
-use Rattle.std.proofs.Common.{◌≡◌, refl, ℕ, ◌&&◌, List, [], ◌∷◌, length, Option, Some, None, option_map, Bool, true, codes}
+-- Each operation that is read fits its vertex, and each row of a source has a field.
+use Rattle.std.proofs.Common.{◌≡◌, refl, ℕ, ◌&&◌, List, [], ◌∷◌, length, Option, Some, None, option_map, option_and_then, Bool, true, codes}
 use Rattle.std.proofs.lemmas.Bool.{eq-eqb}
 use Rattle.std.proofs.lemmas.Cmp.{nat_list_eq_equiv}
 use Rattle.std.specs.List.{list_all}
@@ -13,15 +13,14 @@ use Rattle.nemo_transform.specs.declared.transform.Folding.TheVariants.{Sum, Min
 use Rattle.nemo_transform.specs.declared.transform.Output.{Output}
 use Rattle.nemo_transform.specs.declared.transform.Transform.{Transform}
 use Rattle.nemo_transform.specs.declared.transform.Transform.TheVariants.{Source, Map, Filter, Emit, Words, Reduce, Sink}
-use Rattle.nemo_job.specs.Chain.{has_fields, rows_filled}
-use Rattle.nemo_job.specs.Fitting.{are_fitting, fits, is_fitting}
-use Rattle.nemo_job.specs.declared.vertex.JobVertex.{JobVertex}
+use Rattle.nemo_job.specs.Chain.{rows_filled}
+use Rattle.nemo_job.specs.Fitting.{fits}
 use Rattle.nemo_job.specs.declared.vertex.Ref.{Ref}
 use Rattle.nemo_job.specs.declared.vertex.Work.TheVariants.{Op}
 use Rattle.nemo_bundle.specs.Exprs.{expr_of}
 use Rattle.nemo_bundle.specs.Parts.{array_of, member_of, tested, is_few, field_of, record_of, name_of}
-use Rattle.nemo_bundle.specs.Vertices.{few_of, inputs_of, output_of, output_with, own_place, reduce_by, reduce_of, transform_by, transform_of, vertex_with, vertex_named, vertex_of}
-use Rattle.nemo_bundle.proofs.Passing.{passes, true_passes, if_passes, map_passes, then_passes, array_passes, first_passes, second_passes, tested_passes}
+use Rattle.nemo_bundle.specs.Vertices.{Form, Does, Loops, Head, few_of, form_by, head_named, head_of, head_with, inputs_of, loop_of, output_of, output_with, own_place, reduce_by, reduce_of, transform_by}
+use Rattle.nemo_bundle.proofs.Passing.{passes, true_passes, if_passes, map_passes, then_passes, array_passes, first_passes, tested_passes}
 
 few_filled : {X : Type 0} (o : Option (List X)) → passes is_filled (tested is_few o) ≡ true
 few_filled None = refl
@@ -47,8 +46,8 @@ output_short : (d : Data) → passes is_short (output_of d) ≡ true
 output_short d = with_short (member_of (codes "if") expr_of d) (few_of (codes "out") expr_of d) (few_are expr_of (codes "out") d)
 
 -- whether the rows of a transform have fields, and it fits a vertex of this name and of n inputs
-abbrev is_right : List ℕ → ℕ → Transform → Bool
-is_right name n t = rows_filled (Op t) && fits name n (Op t)
+abbrev pub is_right : List ℕ → ℕ → Transform → Bool
+is_right name n t = rows_filled (Op t) && fits name n t
 
 source_right : (name : List ℕ) (n : ℕ) (rows : Option (List (List _))) → passes (list_all is_filled) rows ≡ true → passes (λ rows. is_right name n (Source rows)) rows ≡ true
 source_right name n (Some rows) h = rw h refl
@@ -91,25 +90,28 @@ by_op_right name n d op =
     (if_passes right (same_text op (codes "sidejoin")) _ _ refl
     (if_passes right (same_text op (codes "sink")) (Some (Sink name)) None (nat_list_eq_equiv.refl name) refl))))))))))
 
--- whether the rows of a vertex have fields, and it fits
-abbrev is_good : JobVertex → Bool
-is_good v = has_fields v && is_fitting v
+-- whether an operation is right
+abbrev pub does_right : List ℕ → ℕ → Form → Bool
+does_right name n (Does t) = is_right name n t
+does_right name n (Loops l) = true
 
-with_good : (name : List ℕ) (inputs : List Ref) (t : Option Transform) → passes (is_right name (length inputs)) t ≡ true → passes is_good (vertex_with name inputs t) ≡ true
-with_good name inputs (Some t) h = h
-with_good name inputs None h = refl
+abbrev pub head_right : Head → Bool
+head_right h = does_right h.name (length h.inputs) h.form
 
-vertex_good : (d : Data) → passes is_good (vertex_of d) ≡ true
-vertex_good d =
-    then_passes is_good (vertex_named d) (member_of (codes "name") name_of d)
-    (λ name. then_passes is_good (λ inputs. vertex_with name inputs (transform_of name (length inputs) d)) (inputs_of d)
-    (λ inputs. with_good name inputs (transform_of name (length inputs) d)
-    (then_passes (is_right name (length inputs)) (transform_by name (length inputs) d) (member_of (codes "op") as_str d) (by_op_right name (length inputs) d))))
+form_right : (name : List ℕ) (n : ℕ) (d : Data) (op : List ℕ) → passes (does_right name n) (form_by name n d op) ≡ true
+form_right name n d op =
+    if_passes (does_right name n) (same_text op (codes "loop")) _ _
+    (map_passes (does_right name n) Loops (loop_of d) (true_passes (loop_of d)))
+    (map_passes (does_right name n) Does (transform_by name n d op) (by_op_right name n d op))
 
--- the rows of the vertices of a job have fields
-pub job_filled : (d : Data) (vs : List JobVertex) → member_of (codes "job") (array_of vertex_of) d ≡ Some vs → list_all has_fields vs ≡ true
-job_filled d vs e = rw e at (array_passes vertex_of has_fields (λ v. first_passes has_fields is_fitting (vertex_of v) (vertex_good v)) (codes "job") d)
+with_right : (name : List ℕ) (inputs : List Ref) (form : Option Form) → passes (does_right name (length inputs)) form ≡ true → passes head_right (head_with name inputs form) ≡ true
+with_right name inputs (Some form) h = h
+with_right name inputs None h = refl
 
--- the vertices of a job fit
-pub job_fits : (d : Data) (vs : List JobVertex) → member_of (codes "job") (array_of vertex_of) d ≡ Some vs → are_fitting vs ≡ true
-job_fits d vs e = rw e at (array_passes vertex_of is_fitting (λ v. second_passes has_fields is_fitting (vertex_of v) (vertex_good v)) (codes "job") d)
+-- the operation of a head that is read
+pub heads_right : (d : Data) → passes head_right (head_of d) ≡ true
+heads_right d =
+    then_passes head_right (head_named d) (member_of (codes "name") name_of d)
+    (λ name. then_passes head_right (λ inputs. head_with name inputs (option_and_then (form_by name (length inputs) d) (member_of (codes "op") as_str d))) (inputs_of d)
+    (λ inputs. with_right name inputs (option_and_then (form_by name (length inputs) d) (member_of (codes "op") as_str d))
+    (then_passes (does_right name (length inputs)) (form_by name (length inputs) d) (member_of (codes "op") as_str d) (form_right name (length inputs) d))))

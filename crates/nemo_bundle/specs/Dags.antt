@@ -1,75 +1,136 @@
 -- The DAGs that JSON values stand for.
-use Rattle.std.specs.Prelude.{ℕ, nat_lt, nat_le, ◌&&◌, Bool, false, if◌then◌else◌, List, Option, Some, None, option_map, option_and_then, codes}
-use Rattle.std.specs.List.{list_all}
+use Rattle.std.specs.Prelude.{ℕ, if◌then◌else◌, List, Option, Some, None, option_map, option_and_then, slice_get, Result, Ok, Err, codes}
 use Rattle.serde_json.specs.Data.{Data, Items, no_items, item}
-use Rattle.serde_json.specs.Find.{as_str, as_array}
-use Rattle.nemo_base.specs.declared.annotation.Class.TheVariants.{Transient}
-use Rattle.nemo_base.specs.declared.annotation.Flow.TheVariants.{Pull}
+use Rattle.serde_json.specs.Find.{as_array, as_str}
+use Rattle.nemo_base.specs.declared.annotation.Class.{Class}
+use Rattle.nemo_base.specs.declared.annotation.Class.TheVariants as class
+use Rattle.nemo_base.specs.declared.annotation.Flow.{Flow}
+use Rattle.nemo_base.specs.declared.annotation.Flow.TheVariants as flow
 use Rattle.nemo_base.specs.declared.annotation.Keep.{Keep}
-use Rattle.nemo_base.specs.declared.annotation.Pattern.TheVariants.{OneToOne}
+use Rattle.nemo_base.specs.declared.annotation.Keep.TheVariants as keep
+use Rattle.nemo_base.specs.declared.annotation.Pattern.{Pattern}
+use Rattle.nemo_base.specs.declared.annotation.Pattern.TheVariants.{OneToOne, Broadcast, Hash, Spread}
 use Rattle.nemo_ir.specs.declared.dag.IrDag.{IrDag}
 use Rattle.nemo_ir.specs.declared.dag.IrEdge.{IrEdge}
 use Rattle.nemo_ir.specs.declared.dag.IrVertex.{IrVertex}
 use Rattle.nemo_ir.specs.declared.dag.VertexKind.{VertexKind}
-use Rattle.nemo_ir.specs.declared.dag.VertexKind.TheVariants as kinds
-use Rattle.nemo_bundle.specs.Parts.{array_of, member_of, tested, is_word, is_exactly, whole_of, number_of}
+use Rattle.nemo_ir.specs.declared.dag.VertexKind.TheVariants.{Op, Relay, Trigger}
+use Rattle.nemo_ir.specs.declared.flat.FlatVertex.{FlatVertex}
+use Rattle.nemo_value.specs.Texts.{same_text}
+use Rattle.nemo_bundle.specs.Answers.{Refusal, on_ok, refused}
+use Rattle.nemo_bundle.specs.Parts.{items_at, member_of, number_of}
 
--- an Op of one task on a transient machine with the transform of flat vertex x, which in a chain is transform x
-abbrev pub op_at : ℕ → IrVertex
-op_at x = record { kind = kinds.Op x; class = Transient; parallelism = 1 }
+---- vertices
 
--- `["op",x,"transient",1]`
-abbrev pub entry_from : Items → Option IrVertex
-entry_from (item kind (item x (item class (item tasks no_items)))) =
-    if is_word (codes "op") (as_str kind) && is_word (codes "transient") (as_str class) && is_exactly 1 (whole_of tasks)
-    then option_map op_at (number_of x)
-    else None
-entry_from _ = None
+abbrev pub class_of : List ℕ → Option Class
+class_of word =
+    if same_text word (codes "reserved") then Some class.Reserved
+    else (if same_text word (codes "transient") then Some class.Transient
+    else None)
 
-abbrev pub entry_of : Data → Option IrVertex
-entry_of d = option_and_then entry_from (as_array d)
+abbrev pub entry_with : VertexKind → Option Class → Option ℕ → Option IrVertex
+entry_with kind (Some class) (Some tasks) = Some (record { kind = kind; class = class; parallelism = tasks })
+entry_with kind (Some class) None = None
+entry_with kind None tasks = None
 
--- whether an Op has the transform of a flat vertex, of which there are n
-abbrev pub is_among : ℕ → VertexKind → Bool
-is_among n (kinds.Op x) = nat_lt x n
-is_among n _ = false
+-- an Op has the transform of flat vertex x, where there is one
+abbrev pub op_at : List FlatVertex → ℕ → Option VertexKind
+op_at flat x = option_map (λ v. Op v.transform) (slice_get flat x)
 
-abbrev pub are_among : ℕ → List IrVertex → Bool
-are_among n us = list_all (λ u. is_among n u.kind) us
+abbrev pub op_with : Option VertexKind → Data → Data → Option IrVertex
+op_with (Some kind) class tasks = entry_with kind (option_and_then class_of (as_str class)) (number_of tasks)
+op_with None class tasks = None
 
-abbrev pub edge_with : Option ℕ → Option ℕ → Option ℕ → Option IrEdge
-edge_with (Some from) (Some to) (Some port) = Some (record { from = from; to = to; port = port; pattern = OneToOne; flow = Pull; keep = Keep.Keep })
-edge_with (Some from) (Some to) None = None
-edge_with (Some from) None port = None
-edge_with None to port = None
+abbrev pub utility_of : List ℕ → Option VertexKind
+utility_of word =
+    if same_text word (codes "relay") then Some Relay
+    else (if same_text word (codes "trigger") then Some Trigger
+    else None)
 
--- `[from,to,port,"one","pull","keep"]`
+-- `["op",x,class,tasks]`
+abbrev pub op_of : List FlatVertex → Data → Data → Data → List ℕ → Option IrVertex
+op_of flat x class tasks word = if same_text word (codes "op") then op_with (option_and_then (op_at flat) (number_of x)) class tasks else None
+
+-- that, or `["relay",class,tasks]` or `["trigger",class,tasks]`
+abbrev pub entry_from : List FlatVertex → Items → Option IrVertex
+entry_from flat (item word (item class (item tasks no_items))) = op_with (option_and_then utility_of (as_str word)) class tasks
+entry_from flat (item word (item x (item class (item tasks no_items)))) = option_and_then (op_of flat x class tasks) (as_str word)
+entry_from flat _ = None
+
+abbrev pub entry_of : List FlatVertex → ℕ → Data → Option IrVertex
+entry_of flat i d = option_and_then (entry_from flat) (as_array d)
+
+---- edges
+
+abbrev pub pattern_of : List ℕ → Option Pattern
+pattern_of word =
+    if same_text word (codes "one") then Some OneToOne
+    else (if same_text word (codes "broadcast") then Some Broadcast
+    else (if same_text word (codes "hash") then Some Hash
+    else (if same_text word (codes "spread") then Some Spread
+    else None)))
+
+abbrev pub flow_of : List ℕ → Option Flow
+flow_of word =
+    if same_text word (codes "push") then Some flow.Push
+    else (if same_text word (codes "pull") then Some flow.Pull
+    else None)
+
+abbrev pub keep_of : List ℕ → Option Keep
+keep_of word =
+    if same_text word (codes "keep") then Some keep.Keep
+    else (if same_text word (codes "discard") then Some keep.Discard
+    else None)
+
+-- where an edge leads
+abbrev pub Ends : Type 0
+Ends = ℕ × ℕ × ℕ
+
+-- how its rows go
+abbrev pub Way : Type 0
+Way = Pattern × Flow × Keep
+
+abbrev pub ends_of : Data → Data → Data → Option Ends
+ends_of from to port = option_and_then (λ f. option_and_then (λ t. option_map (λ p. (f, t, p)) (number_of port)) (number_of to)) (number_of from)
+
+abbrev pub way_of : Data → Data → Data → Option Way
+way_of pattern flow keep =
+    option_and_then (λ p. option_and_then (λ f. option_map (λ k. (p, f, k)) (option_and_then keep_of (as_str keep))) (option_and_then flow_of (as_str flow))) (option_and_then pattern_of (as_str pattern))
+
+abbrev pub edge_with : Option Ends → Option Way → Option IrEdge
+edge_with (Some e) (Some w) = Some (record { from = e.0; to = e.1; port = e.2; pattern = w.0; flow = w.1; keep = w.2 })
+edge_with (Some e) None = None
+edge_with None w = None
+
+-- `[from,to,port,pattern,flow,keep]`
 abbrev pub edge_from : Items → Option IrEdge
-edge_from (item from (item to (item port (item pattern (item flow (item keep no_items)))))) =
-    if is_word (codes "one") (as_str pattern) && is_word (codes "pull") (as_str flow) && is_word (codes "keep") (as_str keep)
-    then edge_with (number_of from) (number_of to) (number_of port)
-    else None
+edge_from (item from (item to (item port (item pattern (item flow (item keep no_items)))))) = edge_with (ends_of from to port) (way_of pattern flow keep)
 edge_from _ = None
 
-abbrev pub edge_of : Data → Option IrEdge
-edge_of d = option_and_then edge_from (as_array d)
+abbrev pub edge_of : ℕ → Data → Option IrEdge
+edge_of i d = option_and_then edge_from (as_array d)
 
-abbrev pub dag_with : Option (List IrVertex) → Option (List IrEdge) → Option (List ℕ) → Option IrDag
-dag_with (Some vertices) (Some edges) (Some rep) = Some (record { vertices = vertices; edges = edges; rep = rep })
-dag_with (Some vertices) (Some edges) None = None
-dag_with (Some vertices) None rep = None
-dag_with None edges rep = None
+---- DAGs
 
--- the arrays `vertices`, `edges` and `rep`, for a flat job of n vertices
-abbrev pub dag_of : ℕ → Data → Option IrDag
-dag_of n d = dag_with (tested (are_among n) (member_of (codes "vertices") (array_of entry_of) d)) (member_of (codes "edges") (array_of edge_of) d) (member_of (codes "rep") (array_of number_of) d)
+-- what the array of a member holds, or the refusal of this code at its first entry that can't be read
+abbrev pub at_code : {X : Type 0} → ℕ → Result X ℕ → Result X Refusal
+at_code code (Ok x) = Ok x
+at_code code (Err place) = Err (refused code place)
 
--- the DAG of a member that may be absent
-abbrev pub dag_in : ℕ → Option Data → Option (Option IrDag)
-dag_in n (Some d) = option_map Some (dag_of n d)
-dag_in n None = Some None
+abbrev pub entries_of : {X : Type 0} → ℕ → List ℕ → (ℕ → Data → Option X) → Data → Result (List X) Refusal
+entries_of code name reads d = at_code code (items_at reads (member_of name as_array d))
 
--- 1 to 64, and 4 where the member is absent
-abbrev pub parallelism_in : Option Data → Option ℕ
-parallelism_in (Some d) = tested (λ n. nat_le 1 n && nat_le n 64) (number_of d)
-parallelism_in None = Some 4
+-- the arrays `vertices`, `edges` and `rep`, for a flat job of these vertices: codes 13, 14 and 15
+abbrev pub dag_of : List FlatVertex → Data → Result IrDag Refusal
+dag_of flat d =
+    on_ok (entries_of 13 (codes "vertices") (entry_of flat) d) (λ vertices. on_ok (entries_of 14 (codes "edges") edge_of d) (λ edges. on_ok (entries_of 15 (codes "rep") (λ i. number_of) d) (λ rep.
+    Ok (record { vertices = vertices; edges = edges; rep = rep }))))
+
+abbrev pub proposed : Result IrDag Refusal → Result (Option IrDag) Refusal
+proposed (Ok dag) = Ok (Some dag)
+proposed (Err r) = Err r
+
+-- the member `dag`, which may be absent
+abbrev pub dag_in : List FlatVertex → Option Data → Result (Option IrDag) Refusal
+dag_in flat (Some d) = proposed (dag_of flat d)
+dag_in flat None = Ok None

@@ -1,5 +1,5 @@
 -- What JSON values stand for: arrays, members, fields, records and names.
-use Rattle.std.specs.Prelude.{ℕ, ℤ, pos, negsuc, ◌^◌, nat_lt, ◌&&◌, Bool, false, nat_le, if◌then◌else◌, List, [], ◌∷◌, length, Option, Some, None, option_map, option_and_then}
+use Rattle.std.specs.Prelude.{ℕ, ℤ, pos, negsuc, ◌^◌, ◌+◌, nat_lt, ◌&&◌, Bool, false, nat_le, if◌then◌else◌, List, [], ◌∷◌, length, Option, Some, None, option_map, option_and_then, Result, Ok, Err}
 use Rattle.std.specs.Option.{option_or}
 use Rattle.std.specs.Ordering.{int_eq}
 use Rattle.serde_json.specs.Data.{Data, Items, no_items, item}
@@ -21,6 +21,22 @@ with_first None others = None
 abbrev pub each : {X : Type 0} → (Data → Option X) → Items → Option (List X)
 each reads no_items = Some []
 each reads (item d ds) = with_first (reads d) (each reads ds)
+
+-- an item in front of the others, where it is there; else its place
+abbrev pub put_first : {X : Type 0} → ℕ → Option X → Result (List X) ℕ → Result (List X) ℕ
+put_first i (Some x) (Ok xs) = Ok (x ∷ xs)
+put_first i (Some x) (Err place) = Err place
+put_first i None others = Err i
+
+-- what the items from place i on stand for, each by its place, or the first place at which one stands for nothing
+abbrev pub each_at : {X : Type 0} → (ℕ → Data → Option X) → ℕ → Items → Result (List X) ℕ
+each_at reads i no_items = Ok []
+each_at reads i (item d ds) = put_first i (reads i d) (each_at reads (i + 1) ds)
+
+-- the items of an array; what is none is refused at place 0
+abbrev pub items_at : {X : Type 0} → (ℕ → Data → Option X) → Option Items → Result (List X) ℕ
+items_at reads (Some ds) = each_at reads 0 ds
+items_at reads None = Err 0
 
 -- an array of what can be read
 abbrev pub array_of : {X : Type 0} → (Data → Option X) → Data → Option (List X)
@@ -84,3 +100,7 @@ record_of d = tested is_few (array_of field_of d)
 -- a text that is a name
 abbrev pub name_of : Data → Option (List ℕ)
 name_of d = tested is_name (as_str d)
+
+-- a whole number of 32 bits in a range
+abbrev pub ranged : ℕ → ℕ → Data → Option ℕ
+ranged least most d = tested (λ n. nat_le least n && nat_le n most) (number_of d)

@@ -1,42 +1,80 @@
--- The bundle that a JSON value stands for, where it has the form that is served.
-use Rattle.std.specs.Prelude.{ℕ, ◌&&◌, Bool, nat_le, if◌then◌else◌, List, [], ◌∷◌, length, Option, Some, None, option_and_then, is_none, ok_or, Result, Err, codes}
-use Rattle.std.specs.List.{list_all}
-use Rattle.serde_json.specs.Data.{Data}
-use Rattle.serde_json.specs.Find.{get}
-use Rattle.nemo_job.specs.Kept.{kept}
+-- The bundle that a JSON value stands for, or its refusal.
+use Rattle.std.specs.Prelude.{Bool, nat_le, if◌then◌else◌, List, Option, Some, None, Result, Ok, Err, codes}
+use Rattle.serde_json.specs.Data.{Data, Items}
+use Rattle.serde_json.specs.Find.{get, as_array}
+use Rattle.nemo_base.specs.declared.settings.Settings.{Settings}
+use Rattle.nemo_flat.specs.Counts.{copies}
+use Rattle.nemo_flat.specs.Flattened.{flattened}
+use Rattle.nemo_ir.specs.declared.flat.FlatVertex.{FlatVertex}
+use Rattle.nemo_job.specs.Refusals as job
 use Rattle.nemo_job.specs.Refusals.{refusal_of}
 use Rattle.nemo_job.specs.declared.vertex.JobVertex.{JobVertex}
-use Rattle.nemo_ir.specs.declared.dag.IrDag.{IrDag}
-use Rattle.nemo_bundle.specs.Answers.{Refusal, unserved}
-use Rattle.nemo_bundle.specs.Parts.{array_of, member_of, tested, is_exactly, whole_of}
-use Rattle.nemo_bundle.specs.Vertices.{vertex_of}
-use Rattle.nemo_bundle.specs.Dags.{dag_in, parallelism_in}
+use Rattle.nemo_bundle.specs.Answers.{Refusal, on_ok, refused}
+use Rattle.nemo_bundle.specs.Choices.{choices_of}
+use Rattle.nemo_bundle.specs.Dags.{at_code, dag_in}
+use Rattle.nemo_bundle.specs.Parts.{is_exactly, member_of, whole_of}
+use Rattle.nemo_bundle.specs.Scripts.{schedule_in, script_in}
+use Rattle.nemo_bundle.specs.Vertices.{Walk, vertices_in}
 use Rattle.nemo_bundle.specs.declared.bundle.Bundle.{Bundle}
+use Rattle.nemo_bundle.specs.declared.bundle.Members.{Members}
+use Rattle.nemo_bundle.specs.declared.choices.Cluster.{Cluster}
 
--- at most 512 vertices, of which nothing is refused
-abbrev pub is_job : List JobVertex → Bool
-is_job vs = nat_le (length vs) 512 && is_none (refusal_of vs)
+-- code 1: the value is no object, or `nemo` isn't 1
+abbrev pub has_version : Data → Bool
+has_version d = is_exactly 1 (member_of (codes "nemo") whole_of d)
 
-abbrev pub job_of : Data → Option (List JobVertex)
-job_of d = tested is_job (member_of (codes "job") (array_of vertex_of) d)
+-- code 2: `job` is absent or no array, or a vertex has not its form
+abbrev pub walked : Walk (List JobVertex) → Result (List JobVertex) Refusal
+walked (Ok w) = Ok w.made
+walked (Err i) = Err (refused 2 i)
 
--- the members that a bundle may not have yet
-abbrev pub unserved_members : List (List ℕ)
-unserved_members = codes "cluster" ∷ codes "policy" ∷ codes "settings" ∷ codes "script" ∷ codes "schedule" ∷ []
+abbrev pub vertices_of : Option Items → Result (List JobVertex) Refusal
+vertices_of (Some items) = walked (vertices_in items)
+vertices_of None = Err (refused 2 0)
 
--- whether `nemo` is 1 and no such member is there
-abbrev pub is_served : Data → Bool
-is_served d = is_exactly 1 (member_of (codes "nemo") whole_of d) && list_all (λ name. is_none (get name d)) unserved_members
+abbrev pub job_of : Data → Result (List JobVertex) Refusal
+job_of d = vertices_of (member_of (codes "job") as_array d)
 
-abbrev pub bundle_with : List JobVertex → Option ℕ → Option (Option IrDag) → Option Bundle
-bundle_with vs (Some p) (Some dag) = Some (record { job = vs; parallelism = p; dag = dag })
-bundle_with vs (Some p) None = None
-bundle_with vs None dag = None
+-- codes 3 to 8: the vertices are no job
+abbrev pub accepted : List JobVertex → Option job.Refusal → Result (List JobVertex) Refusal
+accepted vs (Some r) = Err (record { code = r.code; place = r.place })
+accepted vs None = Ok vs
 
--- a DAG has the transforms of the vertices that reach a sink
-abbrev pub bundle_from : Data → List JobVertex → Option Bundle
-bundle_from d vs = bundle_with vs (parallelism_in (get (codes "parallelism") d)) (dag_in (length (kept vs)) (get (codes "dag") d))
+-- code 9: more than 512 copies
+abbrev pub counted : List JobVertex → Result (List JobVertex) Refusal
+counted vs = if nat_le (copies vs) 512 then Ok vs else Err (refused 9 (copies vs))
 
--- the bundle that a value stands for, or its refusal
+-- the slots of a run
+abbrev pub cluster_of : Settings → Cluster
+cluster_of settings = record { reserved = settings.reserved; transient = settings.transient }
+
+-- codes 10 to 15: the members beside the job, for a flat job of these vertices
+abbrev pub members_of : Data → List FlatVertex → Result Members Refusal
+members_of d flat =
+    on_ok (at_code 10 (choices_of d)) (λ c. on_ok (at_code 11 (script_in (cluster_of c.settings) (get (codes "script") d))) (λ script.
+    on_ok (at_code 12 (schedule_in (get (codes "schedule") d))) (λ schedule. on_ok (dag_in flat (get (codes "dag") d)) (λ dag.
+    Ok (record { choices = c; script = script; schedule = schedule; dag = dag })))))
+
+abbrev pub bundle_with : List JobVertex → Members → Bundle
+bundle_with vs m = record {
+  job = vs;
+  flat = flattened vs;
+  settings = m.choices.settings;
+  parallelism = m.choices.parallelism;
+  policy = m.choices.policy;
+  dag = m.dag;
+  script = m.script;
+  schedule = m.schedule;
+}
+
+-- codes 1 to 8
+abbrev pub accepted_job : Data → Result (List JobVertex) Refusal
+accepted_job d = if has_version d then on_ok (job_of d) (λ vs. accepted vs (refusal_of vs)) else Err (refused 1 0)
+
+-- the first code that fails
 abbrev pub bundle_of : Data → Result Bundle Refusal
-bundle_of d = if is_served d then ok_or (option_and_then (bundle_from d) (job_of d)) unserved else Err unserved
+bundle_of d = on_ok (accepted_job d) (λ vs. on_ok (counted vs) (λ _. on_ok (members_of d (flattened vs).vertices) (λ m. Ok (bundle_with vs m))))
+
+-- its job
+abbrev pub job_in : Data → Result (List JobVertex) Refusal
+job_in d = on_ok (bundle_of d) (λ b. Ok b.job)

@@ -1,82 +1,150 @@
-ghost use Rattle.std.specs.Prelude.{◌≡◌, ◌≤◌, true, is_none, IfOk, IfSome};
+ghost use Rattle.std.specs.Prelude.{◌≡◌, ◌≤◌, true, IfOk};
 ghost use Rattle.std.specs.List.{list_all};
-ghost use Rattle.serde_json.specs.Find.{get};
 ghost use Rattle.serde_json.specs.View.{view};
-ghost use Rattle.nemo_ir.specs.Uniform.{is_uniform};
+ghost use Rattle.nemo_flat.specs.Counts.{copies};
+ghost use Rattle.nemo_flat.specs.Flattened.{flattened};
+ghost use Rattle.nemo_ir.specs.declared.flat.FlatVertex.{FlatVertex};
 ghost use Rattle.nemo_job.specs.Chain.{has_fields};
-ghost use Rattle.nemo_bundle.specs.Answers.{Gives, Reads};
-ghost use Rattle.nemo_bundle.specs.Read.{bundle_of, job_of};
+ghost use Rattle.nemo_job.specs.Fitting.{are_fitting};
+ghost use Rattle.nemo_bundle.specs.Answers.{Gives};
+ghost use Rattle.nemo_bundle.specs.Choices.{AreInRange};
+ghost use Rattle.nemo_bundle.specs.Read.{bundle_of, job_in, job_of};
 ghost use Rattle.nemo_bundle.specs.Read as spec;
 
-use crate::dags::{read_dag, read_parallelism};
-use crate::end::{BundleEnd, UNSERVED};
-use crate::read::read_member;
-use nemo_ir::IrDag;
-use nemo_job::{Job, JobVertex, count_kept};
+use crate::choices::{Choices, Cluster, read_choices};
+use crate::dags::read_dag;
+use crate::end::{BundleEnd, NO_JOB, OTHER_VERSION};
+use crate::schedules::read_schedule;
+use crate::scripts::read_script;
+use crate::walk::{MAX_DEPTH, read_vertices};
+use nemo_base::{Move, Policy, ScriptLine, Settings};
+use nemo_flat::{flat_vertices, flatten};
+use nemo_ir::{FlatJob, FlatVertex, IrDag};
+use nemo_job::{Job, JobVertex};
 use nemo_value::List;
 use serde_json::Value;
 use std::alloc::Global;
 
-/// The one version of the form.
-const VERSION: i64 = 1;
-
-/// The members that a bundle may not have yet.
-const UNSERVED_MEMBERS: [&str; 5] = ["cluster", "policy", "settings", "script", "schedule"];
-
-/// What a bundle asks for: a job, how many tasks its vertices may have, and the DAG that is proposed for it, if one is.
+/// What a bundle asks for: a job and its flat job, the slots and limits of a run, how many tasks a vertex may have, the
+/// policy, the DAG that is proposed if one is, and what is to happen in a run and in a replay.
 #[derive(Debug, Drop)]
 pub struct Bundle {
     pub job: Job,
+    pub flat: FlatJob,
+    pub settings: Settings,
     pub parallelism: u32,
+    pub policy: Policy,
     pub dag: Option<IrDag>,
+    pub script: List<ScriptLine>,
+    pub schedule: List<Move>,
 }
 
-/// The bundle that a JSON value stands for. What has not the form that is served is refused with code 90 and place 0.
-/// A DAG that it proposes is uniform, and each row of its sources has a field.
+/// The bundle that a JSON value stands for, or the refusal of the first code that fails anywhere, with its least place.
 pub fn read_bundle(alloc: Global, value: &Value) -> Result<Bundle, BundleEnd>
     ensures bundle { Gives result (bundle_of (view value.now)) }
     ensures tasks { IfOk result (λ b. (1 ≤ b.parallelism) × (b.parallelism ≤ 64)) }
+    ensures settings { IfOk result (λ b. AreInRange b.settings) }
     ensures filled { IfOk result (λ b. list_all has_fields b.job ≡ true) }
-    ensures uniform { IfOk result (λ b. IfSome b.dag (λ dag. is_uniform dag ≡ true)) }
+    ensures flat { IfOk result (λ b. b.flat ≡ flattened b.job) }
 {
-    if !is_served(value) {
-        return Err(UNSERVED);
-    }
-    let job = read_job(alloc, value)?;
-    let parallelism = read_parallelism(alloc, value)?;
-    let count = count_kept(alloc, job.vertices().as_slice())?;
-    let dag = read_dag(alloc, value, count)?;
+    let job = accepted_job(alloc, value)?;
+    let flat = flatten(alloc, &job)?;
+    let members = read_members(alloc, value, flat.vertices.as_slice())?;
     Ok(Bundle {
         job,
-        parallelism,
-        dag,
+        flat,
+        settings: members.choices.settings,
+        parallelism: members.choices.parallelism,
+        policy: members.choices.policy,
+        dag: members.dag,
+        script: members.script,
+        schedule: members.schedule,
     })
 }
 
-/// Whether `nemo` is the version, and no member is there that isn't served.
-fn is_served(value: &Value) -> bool
-    ensures { result ≡ spec.is_served (view value.now) }
+/// The job of the bundle that a JSON value stands for, or the same refusal. It makes no flat job, which has copies of the
+/// job's transforms and so of the rows of its sources.
+pub fn read_job(alloc: Global, value: &Value) -> Result<Job, BundleEnd>
+    ensures job { Gives result (job_in (view value.now)) }
 {
-    value.get("nemo").and_then(Value::as_i64) == Some(VERSION) && has_none(value, &UNSERVED_MEMBERS)
+    let job = accepted_job(alloc, value)?;
+    let flat = flat_vertices(alloc, &job)?;
+    read_members(alloc, value, flat.as_slice())?;
+    Ok(job)
 }
 
-/// Whether no member has one of the names.
-fn has_none(value: &Value, names: &[&str]) -> bool
-    ensures { result ≡ list_all (λ name. is_none (get name.now (view value.now))) names.now }
-{
-    names.iter().all(|name| value.get(*name).is_none())
-}
-
-/// The most vertices of a job.
-const MAX_VERTICES: usize = 512;
-
-fn read_job(alloc: Global, value: &Value) -> Result<Job, BundleEnd>
-    ensures job { Reads result (job_of (view value.now)) }
+/// The job, or the refusal of codes 1 to 8.
+fn accepted_job(alloc: Global, value: &Value) -> Result<Job, BundleEnd>
+    ensures job { Gives result (spec.accepted_job (view value.now)) }
     ensures filled { IfOk result (λ job. list_all has_fields job ≡ true) }
 {
-    let vertices: List<JobVertex> = read_member(alloc, value, "job")?;
-    if vertices.len() > MAX_VERTICES {
-        return Err(UNSERVED);
+    if !has_version(value) {
+        return Err(OTHER_VERSION);
     }
+    let vertices = read_list(alloc, value)?;
     Ok(Job::new(alloc, vertices.into_vec())?)
+}
+
+/// The one version of the form.
+const VERSION: i64 = 1;
+
+/// Whether `nemo` is the version.
+fn has_version(value: &Value) -> bool
+    ensures { result ≡ spec.has_version (view value.now) }
+{
+    value.get("nemo").and_then(Value::as_i64) == Some(VERSION)
+}
+
+/// The code of vertices that have not their form.
+const VERTEX_SHAPE: u32 = 2;
+
+/// The vertices of `job`.
+fn read_list(alloc: Global, value: &Value) -> Result<List<JobVertex>, BundleEnd>
+    ensures job { Gives result (job_of (view value.now)) }
+    ensures fitting { IfOk result (λ vs. are_fitting vs ≡ true) }
+    ensures filled { IfOk result (λ vs. list_all has_fields vs ≡ true) }
+{
+    let items = value.get("job").and_then(Value::as_array).ok_or(NO_JOB)?;
+    let mut count = 0;
+    match read_vertices(alloc, items.as_slice(), &mut count, MAX_DEPTH) {
+        Ok(vertices) => Ok(vertices),
+        Err(end) => Err(end.with(VERTEX_SHAPE)),
+    }
+}
+
+/// What stands beside the job.
+#[derive(Drop)]
+struct Members {
+    choices: Choices,
+    script: List<ScriptLine>,
+    schedule: List<Move>,
+    dag: Option<IrDag>,
+}
+
+const SETTING: u32 = 10;
+
+const SCRIPT_LINE: u32 = 11;
+
+const STEP: u32 = 12;
+
+/// The members beside the job, for a flat job of these vertices, or the refusal of codes 10 to 15.
+fn read_members(alloc: Global, value: &Value, flat: &[FlatVertex]) -> Result<Members, BundleEnd>
+    ensures members { Gives result (spec.members_of (view value.now) flat.now) }
+    ensures tasks { IfOk result (λ m. (1 ≤ m.choices.parallelism) × (m.choices.parallelism ≤ 64)) }
+    ensures settings { IfOk result (λ m. AreInRange m.choices.settings) }
+{
+    let choices = read_choices(alloc, value).map_err(|e| e.with(SETTING))?;
+    let cluster = Cluster {
+        reserved: choices.settings.reserved,
+        transient: choices.settings.transient,
+    };
+    let script = read_script(alloc, cluster, value).map_err(|e| e.with(SCRIPT_LINE))?;
+    let schedule = read_schedule(alloc, value).map_err(|e| e.with(STEP))?;
+    let dag = read_dag(alloc, value, flat)?;
+    Ok(Members {
+        choices,
+        script,
+        schedule,
+        dag,
+    })
 }

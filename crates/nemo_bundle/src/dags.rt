@@ -1,14 +1,14 @@
-ghost use Rattle.std.specs.Prelude.{◌≡◌, ◌≤◌, ◌&&◌, IfOk, codes, nat_le, option_map};
+ghost use Rattle.std.specs.Prelude.{◌≡◌, ◌≤◌, Some, IfOk, codes, option_and_then};
 ghost use Rattle.serde_json.specs.Find.{as_str, get};
 ghost use Rattle.serde_json.specs.View.{view, items_view};
-ghost use Rattle.nemo_bundle.specs.Answers.{Reads};
+ghost use Rattle.nemo_bundle.specs.Answers.{Gives, Reads};
 ghost use Rattle.nemo_bundle.specs.Dags as spec;
 ghost use Rattle.nemo_bundle.specs.Parts as parts;
 
-use crate::end::{BundleEnd, UNSERVED};
-use crate::read::{FromJson, read_member};
+use crate::end::{BundleEnd, PartEnd};
+use crate::read::{FromJson, ReadAt, read_items_at};
 use nemo_base::{Class, Flow, Keep, Pattern};
-use nemo_ir::{IrDag, IrEdge, IrVertex, VertexKind};
+use nemo_ir::{FlatVertex, IrDag, IrEdge, IrVertex, VertexKind};
 use nemo_value::List;
 use serde_json::Value;
 use std::alloc::Global;
@@ -19,50 +19,28 @@ impl FromJson for u32 {
 
     ghost reads = { number_of };
 
-    fn from_json(_alloc: Global, value: &Value) -> Result<u32, BundleEnd> {
-        let n = value.as_i64().ok_or(UNSERVED)?;
-        u32::try_from(n).map_err(|_| UNSERVED)
+    fn from_json(_alloc: Global, value: &Value) -> Result<u32, PartEnd> {
+        let n = value.as_i64().ok_or(PartEnd::Malformed)?;
+        u32::try_from(n).map_err(|_| PartEnd::Malformed)
     }
 }
 
-/// An edge along which each task reads the task of its own number.
-impl FromJson for IrEdge {
-    ghost use Rattle.nemo_bundle.specs.Dags.{edge_of};
-
-    ghost reads = { edge_of };
-
-    fn from_json(alloc: Global, value: &Value) -> Result<IrEdge, BundleEnd> {
-        read_edge(alloc, value.as_array().ok_or(UNSERVED)?.as_slice())
-    }
-}
-
-#[tactic(auto, using(crate::proofs::Lengths::edge_of_fewer, crate::proofs::Lengths::edge_of_more))]
-fn read_edge(alloc: Global, items: &[Value]) -> Result<IrEdge, BundleEnd>
-    ensures { Reads result (spec.edge_from (items_view items.now)) }
+/// A number of at least `least` and at most `most`.
+pub(crate) fn read_ranged(
+    alloc: Global,
+    value: &Value,
+    least: u32,
+    most: u32,
+) -> Result<u32, PartEnd>
+    ensures number { Reads result (parts.ranged least most (view value.now)) }
+    ensures range { IfOk result (λ n. (least ≤ n) × (n ≤ most)) }
 {
-    match items {
-        [from, to, port, pattern, flow, keep] => {
-            if is_word(pattern, "one") && is_word(flow, "pull") && is_word(keep, "keep") {
-                read_ends(alloc, from, to, port)
-            } else {
-                Err(UNSERVED)
-            }
-        }
-        _ => Err(UNSERVED),
+    let n = u32::from_json(alloc, value)?;
+    if least <= n && n <= most {
+        Ok(n)
+    } else {
+        Err(PartEnd::Malformed)
     }
-}
-
-fn read_ends(alloc: Global, from: &Value, to: &Value, port: &Value) -> Result<IrEdge, BundleEnd>
-    ensures { Reads result (spec.edge_with (parts.number_of (view from.now)) (parts.number_of (view to.now)) (parts.number_of (view port.now))) }
-{
-    Ok(IrEdge {
-        from: u32::from_json(alloc, from)?,
-        to: u32::from_json(alloc, to)?,
-        port: u32::from_json(alloc, port)?,
-        pattern: Pattern::OneToOne,
-        flow: Flow::Pull,
-        keep: Keep::Keep,
-    })
 }
 
 /// Whether the value is this text.
@@ -72,120 +50,219 @@ pub(crate) fn is_word(value: &Value, word: &str) -> bool
     value.as_str() == Some(word)
 }
 
-/// An Op of one task on a transient machine, with the transform of a flat vertex, which in a chain is the transform of
-/// its number.
-impl FromJson for IrVertex {
-    ghost use Rattle.nemo_bundle.specs.Dags.{entry_of};
-
-    ghost reads = { entry_of };
-
-    fn from_json(alloc: Global, value: &Value) -> Result<IrVertex, BundleEnd> {
-        read_entry(alloc, value.as_array().ok_or(UNSERVED)?.as_slice())
-    }
-}
-
-#[tactic(auto, using(crate::proofs::Lengths::entry_of_fewer, crate::proofs::Lengths::entry_of_more))]
-fn read_entry(alloc: Global, items: &[Value]) -> Result<IrVertex, BundleEnd>
-    ensures { Reads result (spec.entry_from (items_view items.now)) }
-{
-    match items {
-        [kind, x, class, tasks] => {
-            if is_word(kind, "op") && is_word(class, "transient") && tasks.as_i64() == Some(1) {
-                read_op(alloc, x)
-            } else {
-                Err(UNSERVED)
-            }
-        }
-        _ => Err(UNSERVED),
-    }
-}
-
-fn read_op(alloc: Global, x: &Value) -> Result<IrVertex, BundleEnd>
-    ensures { Reads result (option_map spec.op_at (parts.number_of (view x.now))) }
-{
-    Ok(IrVertex {
-        kind: VertexKind::Op(u32::from_json(alloc, x)?),
-        class: Class::Transient,
-        parallelism: 1,
-    })
-}
-
-/// Whether each Op has the transform of a flat vertex, of which there are `count`.
-fn are_among(count: usize, vertices: &[IrVertex]) -> bool
-    ensures { result ≡ spec.are_among count vertices.now }
-{
-    vertices.iter().all(|u| is_among(count, u.kind))
-}
-
-fn is_among(count: usize, kind: VertexKind) -> bool
-    ensures { result ≡ spec.is_among count kind }
-{
-    match kind {
-        VertexKind::Op(x) => (x as usize) < count,
-        VertexKind::Relay | VertexKind::Trigger => false,
-    }
-}
-
-/// The DAG of the member `dag`, where it is there, for a flat job of `count` vertices.
+/// The DAG of the member `dag`, where it is there, for a flat job of these vertices.
 pub(crate) fn read_dag(
     alloc: Global,
     value: &Value,
-    count: usize,
+    flat: &[FlatVertex],
 ) -> Result<Option<IrDag>, BundleEnd>
-    ensures { Reads result (spec.dag_in count (get (codes "dag") (view value.now))) }
+    ensures { Gives result (spec.dag_in flat.now (get (codes "dag") (view value.now))) }
 {
     match value.get("dag") {
-        Some(dag) => Ok(Some(read_lists(alloc, dag, count)?)),
+        Some(dag) => Ok(Some(read_proposed(alloc, dag, flat)?)),
         None => Ok(None),
     }
 }
 
-fn read_lists(alloc: Global, dag: &Value, count: usize) -> Result<IrDag, BundleEnd>
-    ensures { Reads result (spec.dag_of count (view dag.now)) }
+fn read_proposed(alloc: Global, value: &Value, flat: &[FlatVertex]) -> Result<IrDag, BundleEnd>
+    ensures { Gives result (spec.dag_of flat.now (view value.now)) }
 {
-    let vertices = read_vertices(alloc, dag, count)?;
-    let edges = read_member(alloc, dag, "edges")?;
-    let rep = read_member(alloc, dag, "rep")?;
     Ok(IrDag {
-        vertices,
-        edges,
-        rep,
+        vertices: read_entries(alloc, value, "vertices", &Vertices { flat }, 13)?,
+        edges: read_entries(alloc, value, "edges", &Edges, 14)?,
+        rep: read_entries(alloc, value, "rep", &Rep, 15)?,
     })
 }
 
-fn read_vertices(alloc: Global, dag: &Value, count: usize) -> Result<List<IrVertex>, BundleEnd>
-    ensures { Reads result (parts.tested (spec.are_among count) (parts.member_of (codes "vertices") (parts.array_of spec.entry_of) (view dag.now))) }
+/// What the array of a member holds, or this code at the first entry that can't be read.
+fn read_entries<R: ReadAt>(
+    alloc: Global,
+    value: &Value,
+    name: &str,
+    reader: &R,
+    code: u32,
+) -> Result<List<R::Item>, BundleEnd>
+    ensures { Gives result (spec.entries_of code name.now (R.reads reader.now) (view value.now)) }
 {
-    let vertices: List<IrVertex> = read_member(alloc, dag, "vertices")?;
-    if are_among(count, vertices.as_slice()) {
-        Ok(vertices)
-    } else {
-        Err(UNSERVED)
+    let items = value
+        .get(name)
+        .and_then(Value::as_array)
+        .ok_or(BundleEnd::Refused { code, place: 0 })?;
+    read_items_at(alloc, reader, items.as_slice()).map_err(|e| e.with(code))
+}
+
+/// Reads the vertices of a DAG for a flat job of these vertices.
+#[derive(Clone, Copy)]
+struct Vertices<'a> {
+    flat: &'a [FlatVertex],
+}
+
+impl ReadAt for Vertices<'_> {
+    ghost use Rattle.nemo_bundle.specs.Dags.{entry_of};
+
+    type Item = IrVertex;
+
+    ghost reads = { λ r. entry_of r.flat.now };
+
+    fn read_at(&self, alloc: Global, _place: usize, value: &Value) -> Result<IrVertex, PartEnd> {
+        read_vertex(
+            alloc,
+            value.as_array().ok_or(PartEnd::Malformed)?.as_slice(),
+            self.flat,
+        )
     }
 }
 
-/// The parallelism without the member.
-const PARALLELISM: u32 = 4;
-
-/// The member `parallelism`, 1 to 64.
-pub(crate) fn read_parallelism(alloc: Global, value: &Value) -> Result<u32, BundleEnd>
-    ensures number { Reads result (spec.parallelism_in (get (codes "parallelism") (view value.now))) }
-    ensures range { IfOk result (λ n. (1 ≤ n) × (n ≤ 64)) }
+#[tactic(auto, using(crate::proofs::Lengths::entry_of_fewer, crate::proofs::Lengths::entry_of_more))]
+fn read_vertex(alloc: Global, items: &[Value], flat: &[FlatVertex]) -> Result<IrVertex, PartEnd>
+    ensures { Reads result (spec.entry_from flat.now (items_view items.now)) }
 {
-    match value.get("parallelism") {
-        Some(member) => read_tasks(alloc, member),
-        None => Ok(PARALLELISM),
+    match items {
+        [word, class, tasks] => {
+            let kind = word
+                .as_str()
+                .and_then(utility_of)
+                .ok_or(PartEnd::Malformed)?;
+            with_kind(alloc, kind, class, tasks)
+        }
+        [word, x, class, tasks] => {
+            if is_word(word, "op") {
+                with_kind(alloc, read_op(alloc, x, flat)?, class, tasks)
+            } else {
+                Err(PartEnd::Malformed)
+            }
+        }
+        _ => Err(PartEnd::Malformed),
     }
 }
 
-fn read_tasks(alloc: Global, value: &Value) -> Result<u32, BundleEnd>
-    ensures number { Reads result (parts.tested (λ n. nat_le 1 n && nat_le n 64) (parts.number_of (view value.now))) }
-    ensures range { IfOk result (λ n. (1 ≤ n) × (n ≤ 64)) }
+fn with_kind(
+    alloc: Global,
+    kind: VertexKind,
+    class: &Value,
+    tasks: &Value,
+) -> Result<IrVertex, PartEnd>
+    ensures { Reads result (spec.op_with (Some kind) (view class.now) (view tasks.now)) }
 {
-    let n = u32::from_json(alloc, value)?;
-    if 1 <= n && n <= 64 {
-        Ok(n)
-    } else {
-        Err(UNSERVED)
+    Ok(IrVertex {
+        kind,
+        class: class.as_str().and_then(class_of).ok_or(PartEnd::Malformed)?,
+        parallelism: u32::from_json(alloc, tasks)?,
+    })
+}
+
+/// The Op of flat vertex x, where there is one.
+fn read_op(alloc: Global, x: &Value, flat: &[FlatVertex]) -> Result<VertexKind, PartEnd>
+    ensures { Reads result (option_and_then (spec.op_at flat.now) (parts.number_of (view x.now))) }
+{
+    let x = u32::from_json(alloc, x)?;
+    let vertex = flat.get(x as usize).ok_or(PartEnd::Malformed)?;
+    Ok(VertexKind::Op(vertex.transform))
+}
+
+fn utility_of(word: &str) -> Option<VertexKind>
+    ensures { result ≡ spec.utility_of word.now }
+{
+    match word {
+        "relay" => Some(VertexKind::Relay),
+        "trigger" => Some(VertexKind::Trigger),
+        _ => None,
+    }
+}
+
+fn class_of(word: &str) -> Option<Class>
+    ensures { result ≡ spec.class_of word.now }
+{
+    match word {
+        "reserved" => Some(Class::Reserved),
+        "transient" => Some(Class::Transient),
+        _ => None,
+    }
+}
+
+/// Reads the edges of a DAG.
+#[derive(Clone, Copy)]
+struct Edges;
+
+impl ReadAt for Edges {
+    ghost use Rattle.nemo_bundle.specs.Dags.{edge_of};
+
+    type Item = IrEdge;
+
+    ghost reads = { λ _. edge_of };
+
+    fn read_at(&self, alloc: Global, _place: usize, value: &Value) -> Result<IrEdge, PartEnd> {
+        read_edge(
+            alloc,
+            value.as_array().ok_or(PartEnd::Malformed)?.as_slice(),
+        )
+    }
+}
+
+#[tactic(auto, using(crate::proofs::Lengths::edge_of_fewer, crate::proofs::Lengths::edge_of_more))]
+fn read_edge(alloc: Global, items: &[Value]) -> Result<IrEdge, PartEnd>
+    ensures { Reads result (spec.edge_from (items_view items.now)) }
+{
+    match items {
+        [from, to, port, pattern, flow, keep] => Ok(IrEdge {
+            from: u32::from_json(alloc, from)?,
+            to: u32::from_json(alloc, to)?,
+            port: u32::from_json(alloc, port)?,
+            pattern: pattern
+                .as_str()
+                .and_then(pattern_of)
+                .ok_or(PartEnd::Malformed)?,
+            flow: flow.as_str().and_then(flow_of).ok_or(PartEnd::Malformed)?,
+            keep: keep.as_str().and_then(keep_of).ok_or(PartEnd::Malformed)?,
+        }),
+        _ => Err(PartEnd::Malformed),
+    }
+}
+
+fn pattern_of(word: &str) -> Option<Pattern>
+    ensures { result ≡ spec.pattern_of word.now }
+{
+    match word {
+        "one" => Some(Pattern::OneToOne),
+        "broadcast" => Some(Pattern::Broadcast),
+        "hash" => Some(Pattern::Hash),
+        "spread" => Some(Pattern::Spread),
+        _ => None,
+    }
+}
+
+fn flow_of(word: &str) -> Option<Flow>
+    ensures { result ≡ spec.flow_of word.now }
+{
+    match word {
+        "push" => Some(Flow::Push),
+        "pull" => Some(Flow::Pull),
+        _ => None,
+    }
+}
+
+fn keep_of(word: &str) -> Option<Keep>
+    ensures { result ≡ spec.keep_of word.now }
+{
+    match word {
+        "keep" => Some(Keep::Keep),
+        "discard" => Some(Keep::Discard),
+        _ => None,
+    }
+}
+
+/// Reads for each flat vertex the vertex that stands for it.
+#[derive(Clone, Copy)]
+struct Rep;
+
+impl ReadAt for Rep {
+    ghost use Rattle.nemo_bundle.specs.Parts.{number_of};
+
+    type Item = u32;
+
+    ghost reads = { λ _ _. number_of };
+
+    fn read_at(&self, alloc: Global, _place: usize, value: &Value) -> Result<u32, PartEnd> {
+        u32::from_json(alloc, value)
     }
 }

@@ -2,11 +2,16 @@
 #![tactic(auto)]
 
 mod bundle;
+mod choices;
 mod dags;
 mod end;
+mod head;
 mod parts;
 mod read;
+mod schedules;
+mod scripts;
 mod vertices;
+mod walk;
 
-pub use bundle::{Bundle, read_bundle};
-pub use end::{BundleEnd, UNSERVED};
+pub use bundle::{Bundle, read_bundle, read_job};
+pub use end::BundleEnd;

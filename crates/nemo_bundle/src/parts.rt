@@ -5,7 +5,7 @@ ghost use Rattle.nemo_bundle.specs.Exprs as spec;
 ghost use Rattle.nemo_bundle.specs.Parts.{place_of};
 
 use crate::dags::is_word;
-use crate::end::{BundleEnd, UNSERVED};
+use crate::end::PartEnd;
 use crate::read::{FromJson, owned};
 use nemo_value::{Boxed, Expr, Field, List, MAX_FIELDS, Name, NoMemory, Oper, Record, Text};
 use serde_json::Value;
@@ -17,12 +17,12 @@ impl FromJson for Field {
 
     ghost reads = { field_of };
 
-    fn from_json(alloc: Global, value: &Value) -> Result<Field, BundleEnd> {
+    fn from_json(alloc: Global, value: &Value) -> Result<Field, PartEnd> {
         if let Some(n) = value.as_i64() {
             return Ok(Field::Int(n));
         }
-        let text = value.as_str().ok_or(UNSERVED)?;
-        let text = Text::from_str(alloc, text)?.ok_or(UNSERVED)?;
+        let text = value.as_str().ok_or(PartEnd::Malformed)?;
+        let text = Text::from_str(alloc, text)?.ok_or(PartEnd::Malformed)?;
         Ok(Field::Text(text))
     }
 }
@@ -33,8 +33,8 @@ impl FromJson for Record {
 
     ghost reads = { record_of };
 
-    fn from_json(alloc: Global, value: &Value) -> Result<Record, BundleEnd> {
-        Record::new(List::from_json(alloc, value)?).map_err(|_| UNSERVED)
+    fn from_json(alloc: Global, value: &Value) -> Result<Record, PartEnd> {
+        Record::new(List::from_json(alloc, value)?).map_err(|_| PartEnd::Malformed)
     }
 }
 
@@ -44,9 +44,9 @@ impl FromJson for Name {
 
     ghost reads = { name_of };
 
-    fn from_json(alloc: Global, value: &Value) -> Result<Name, BundleEnd> {
-        let text = value.as_str().ok_or(UNSERVED)?;
-        Name::new(owned(alloc, text)?).map_err(|_| UNSERVED)
+    fn from_json(alloc: Global, value: &Value) -> Result<Name, PartEnd> {
+        let text = value.as_str().ok_or(PartEnd::Malformed)?;
+        Name::new(owned(alloc, text)?).map_err(|_| PartEnd::Malformed)
     }
 }
 
@@ -56,7 +56,7 @@ impl FromJson for Expr {
 
     ghost reads = { expr_of };
 
-    fn from_json(alloc: Global, value: &Value) -> Result<Expr, BundleEnd> {
+    fn from_json(alloc: Global, value: &Value) -> Result<Expr, PartEnd> {
         read_expr(alloc, value, MAX_DEPTH)
     }
 }
@@ -66,56 +66,56 @@ const MAX_DEPTH: u32 = 32;
 
 /// An expression that is at most `depth` deep.
 #[cycle(expr)]
-fn read_expr(alloc: Global, value: &Value, depth: u32) -> Result<Expr, BundleEnd>
+fn read_expr(alloc: Global, value: &Value, depth: u32) -> Result<Expr, PartEnd>
     ensures { Reads result (spec.expr_within depth (view value.now)) }
 {
     if depth == 0 {
-        return Err(UNSERVED);
+        return Err(PartEnd::Malformed);
     }
     read_form(
         alloc,
-        value.as_array().ok_or(UNSERVED)?.as_slice(),
+        value.as_array().ok_or(PartEnd::Malformed)?.as_slice(),
         depth - 1,
     )
 }
 
 /// A word and what it wants, whose expressions are at most `depth` deep.
 #[cycle(expr)]
-fn read_form(alloc: Global, items: &[Value], depth: u32) -> Result<Expr, BundleEnd>
+fn read_form(alloc: Global, items: &[Value], depth: u32) -> Result<Expr, PartEnd>
     ensures { Reads result (spec.expr_from (spec.expr_within depth) (items_view items.now)) }
 {
     match items {
-        [word, a] => read_one(alloc, word.as_str().ok_or(UNSERVED)?, a, depth),
-        [word, a, b] => read_pair(alloc, word.as_str().ok_or(UNSERVED)?, a, b, depth),
+        [word, a] => read_one(alloc, word.as_str().ok_or(PartEnd::Malformed)?, a, depth),
+        [word, a, b] => read_pair(alloc, word.as_str().ok_or(PartEnd::Malformed)?, a, b, depth),
         [word, test, a, b] => {
             if is_word(word, "if") {
                 read_choice(alloc, test, a, b, depth)
             } else {
-                Err(UNSERVED)
+                Err(PartEnd::Malformed)
             }
         }
-        _ => Err(UNSERVED),
+        _ => Err(PartEnd::Malformed),
     }
 }
 
 /// A field, a constant, or the length of a text.
 #[cycle(expr)]
-fn read_one(alloc: Global, word: &str, value: &Value, depth: u32) -> Result<Expr, BundleEnd>
+fn read_one(alloc: Global, word: &str, value: &Value, depth: u32) -> Result<Expr, PartEnd>
     ensures { Reads result (spec.one_by (spec.expr_within depth) (view value.now) word.now) }
 {
     match word {
         "f" => Ok(Expr::Get(read_place(alloc, value)?)),
         "c" => Ok(Expr::Const(Field::from_json(alloc, value)?)),
         "len" => Ok(Expr::Len(read_boxed(alloc, value, depth)?)),
-        _ => Err(UNSERVED),
+        _ => Err(PartEnd::Malformed),
     }
 }
 
 #[cycle(expr)]
-fn read_pair(alloc: Global, word: &str, a: &Value, b: &Value, depth: u32) -> Result<Expr, BundleEnd>
+fn read_pair(alloc: Global, word: &str, a: &Value, b: &Value, depth: u32) -> Result<Expr, PartEnd>
     ensures { Reads result (spec.pair_by (spec.expr_within depth) (view a.now) (view b.now) word.now) }
 {
-    let oper = oper_of(word).ok_or(UNSERVED)?;
+    let oper = oper_of(word).ok_or(PartEnd::Malformed)?;
     let first = read_boxed(alloc, a, depth)?;
     let second = read_boxed(alloc, b, depth)?;
     Ok(Expr::Pair(oper, first, second))
@@ -128,7 +128,7 @@ fn read_choice(
     a: &Value,
     b: &Value,
     depth: u32,
-) -> Result<Expr, BundleEnd>
+) -> Result<Expr, PartEnd>
     ensures { Reads result (spec.choice_with (spec.expr_within depth (view test.now)) (spec.expr_within depth (view a.now)) (spec.expr_within depth (view b.now))) }
 {
     let test = read_boxed(alloc, test, depth)?;
@@ -138,7 +138,7 @@ fn read_choice(
 }
 
 #[cycle(expr)]
-fn read_boxed(alloc: Global, value: &Value, depth: u32) -> Result<Boxed<Expr>, BundleEnd>
+fn read_boxed(alloc: Global, value: &Value, depth: u32) -> Result<Boxed<Expr>, PartEnd>
     ensures { Reads result (spec.expr_within depth (view value.now)) }
 {
     Ok(boxed(alloc, read_expr(alloc, value, depth)?)?)
@@ -168,13 +168,13 @@ fn oper_of(word: &str) -> Option<Oper>
 }
 
 /// The place of a field, 0 to 15.
-pub(crate) fn read_place(alloc: Global, value: &Value) -> Result<u32, BundleEnd>
+pub(crate) fn read_place(alloc: Global, value: &Value) -> Result<u32, PartEnd>
     ensures { Reads result (place_of (view value.now)) }
 {
     let place = u32::from_json(alloc, value)?;
     if (place as usize) < MAX_FIELDS {
         Ok(place)
     } else {
-        Err(UNSERVED)
+        Err(PartEnd::Malformed)
     }
 }

@@ -4,10 +4,10 @@ ghost use Rattle.nemo_transform.specs.declared.transform.Transform.TheVariants.{
 ghost use Rattle.nemo_bundle.specs.Answers.{Reads};
 ghost use Rattle.nemo_bundle.specs.Vertices as spec;
 
-use crate::end::{BundleEnd, UNSERVED};
+use crate::end::PartEnd;
 use crate::parts::read_place;
 use crate::read::{FromJson, read_member};
-use nemo_job::{JobVertex, Ref, Work};
+use nemo_job::Ref;
 use nemo_transform::{Folding, Output, Transform};
 use nemo_value::{Expr, List, Name, TryCopy};
 use serde_json::Value;
@@ -22,7 +22,7 @@ impl FromJson for Ref {
 
     ghost reads = { ref_of };
 
-    fn from_json(alloc: Global, value: &Value) -> Result<Ref, BundleEnd> {
+    fn from_json(alloc: Global, value: &Value) -> Result<Ref, PartEnd> {
         match value.as_array() {
             Some(items) => read_ref(alloc, items.as_slice()),
             None => Ok(Ref {
@@ -33,7 +33,7 @@ impl FromJson for Ref {
     }
 }
 
-fn read_ref(alloc: Global, items: &[Value]) -> Result<Ref, BundleEnd>
+fn read_ref(alloc: Global, items: &[Value]) -> Result<Ref, PartEnd>
     ensures { Reads result (spec.ref_from (items_view items.now)) }
 {
     match items {
@@ -41,30 +41,12 @@ fn read_ref(alloc: Global, items: &[Value]) -> Result<Ref, BundleEnd>
             name: Name::from_json(alloc, name)?,
             port: u32::from_json(alloc, port)?,
         }),
-        _ => Err(UNSERVED),
-    }
-}
-
-/// An object with `name`, `op` and the members of its op, and mostly `in`.
-impl FromJson for JobVertex {
-    ghost use Rattle.nemo_bundle.specs.Vertices.{vertex_of};
-
-    ghost reads = { vertex_of };
-
-    fn from_json(alloc: Global, value: &Value) -> Result<JobVertex, BundleEnd> {
-        let name: Name = read_member(alloc, value, "name")?;
-        let inputs = read_inputs(alloc, value)?;
-        let transform = read_transform(alloc, &name, inputs.len(), value)?;
-        Ok(JobVertex {
-            name,
-            work: Work::Op(transform),
-            inputs,
-        })
+        _ => Err(PartEnd::Malformed),
     }
 }
 
 /// The references of `in`, which may be absent.
-fn read_inputs(alloc: Global, value: &Value) -> Result<List<Ref>, BundleEnd>
+pub(crate) fn read_inputs(alloc: Global, value: &Value) -> Result<List<Ref>, PartEnd>
     ensures { Reads result (spec.inputs_of (view value.now)) }
 {
     match value.get("in") {
@@ -73,26 +55,14 @@ fn read_inputs(alloc: Global, value: &Value) -> Result<List<Ref>, BundleEnd>
     }
 }
 
-/// The transform of a vertex of this name and this many inputs.
-fn read_transform(
-    alloc: Global,
-    name: &Name,
-    inputs: usize,
-    value: &Value,
-) -> Result<Transform, BundleEnd>
-    ensures { Reads result (spec.transform_of name.now inputs (view value.now)) }
-{
-    let op = value.get("op").and_then(Value::as_str).ok_or(UNSERVED)?;
-    read_transform_by(alloc, op, name, inputs, value)
-}
-
-fn read_transform_by(
+/// The transform of a vertex of this name and this many inputs, by its op.
+pub(crate) fn read_transform_by(
     alloc: Global,
     op: &str,
     name: &Name,
     inputs: usize,
     value: &Value,
-) -> Result<Transform, BundleEnd>
+) -> Result<Transform, PartEnd>
     ensures { Reads result (spec.transform_by name.now inputs (view value.now) op.now) }
 {
     match op {
@@ -119,46 +89,46 @@ fn read_transform_by(
         "sink" => Ok(Transform::Sink {
             name: name.copy(alloc)?,
         }),
-        _ => Err(UNSERVED),
+        _ => Err(PartEnd::Malformed),
     }
 }
 
 /// A union of this many ports. More than a `u32` counts are taken as more than memory holds.
-fn union_of(ports: usize) -> Result<Transform, BundleEnd>
+fn union_of(ports: usize) -> Result<Transform, PartEnd>
     ensures { Reads result (Some (Union ports)) }
 {
     match u32::try_from(ports) {
         Ok(ports) => Ok(Transform::Union { ports }),
-        Err(_) => Err(BundleEnd::NoMemory),
+        Err(_) => Err(PartEnd::NoMemory),
     }
 }
 
 /// The 1 to 16 things of a member.
-fn read_few<T: FromJson>(alloc: Global, value: &Value, name: &str) -> Result<List<T>, BundleEnd>
+fn read_few<T: FromJson>(alloc: Global, value: &Value, name: &str) -> Result<List<T>, PartEnd>
     ensures { Reads result (spec.few_of name.now T.reads (view value.now)) }
 {
     let list: List<T> = read_member(alloc, value, name)?;
     if 1 <= list.len() && list.len() <= MAX_OUT {
         Ok(list)
     } else {
-        Err(UNSERVED)
+        Err(PartEnd::Malformed)
     }
 }
 
-fn read_field(alloc: Global, value: &Value) -> Result<u32, BundleEnd>
+fn read_field(alloc: Global, value: &Value) -> Result<u32, PartEnd>
     ensures { Reads result (spec.own_place (view value.now)) }
 {
-    read_place(alloc, value.get("field").ok_or(UNSERVED)?)
+    read_place(alloc, value.get("field").ok_or(PartEnd::Malformed)?)
 }
 
-fn read_reduce(alloc: Global, value: &Value) -> Result<Transform, BundleEnd>
+fn read_reduce(alloc: Global, value: &Value) -> Result<Transform, PartEnd>
     ensures { Reads result (spec.reduce_of (view value.now)) }
 {
     let by = value
         .get("fn")
         .and_then(Value::as_str)
         .and_then(folding_of)
-        .ok_or(UNSERVED)?;
+        .ok_or(PartEnd::Malformed)?;
     let field = match by {
         Folding::Count => 0,
         _ => read_field(alloc, value)?,
@@ -184,7 +154,7 @@ impl FromJson for Output {
 
     ghost reads = { output_of };
 
-    fn from_json(alloc: Global, value: &Value) -> Result<Output, BundleEnd> {
+    fn from_json(alloc: Global, value: &Value) -> Result<Output, PartEnd> {
         Ok(Output {
             cond: read_member(alloc, value, "if")?,
             out: read_few(alloc, value, "out")?,

@@ -10,6 +10,7 @@ use Rattle.nemo_transform.specs.Ports.{PortKind, Main, Keyed, Side, kinds_of}
 use Rattle.nemo_transform.specs.declared.transform.Transform.{Transform}
 use Rattle.nemo_ir.specs.Along.{below}
 use Rattle.nemo_ir.specs.Flat.{FlatForm, transform_of}
+use Rattle.nemo_ir.specs.Valid.{Holds, V1, V2, V3, V4, V5, V6}
 use Rattle.nemo_ir.specs.declared.dag.IrDag.{IrDag}
 use Rattle.nemo_ir.specs.declared.dag.IrEdge.{IrEdge}
 use Rattle.nemo_ir.specs.declared.dag.IrVertex.{IrVertex}
@@ -55,3 +56,12 @@ first_dag flat = record {
   edges = flat_map (λ es. es) (map_at (edges_into flat) 0 flat.vertices);
   rep = below (length flat.vertices);
 }
+
+-- the first six clauses, which a DAG meets before any pass
+pub record IsFirst (flat : FlatForm) (dag : IrDag) : Type 0 where
+  pub v1 : Holds flat dag V1
+  pub v2 : Holds flat dag V2
+  pub v3 : Holds flat dag V3
+  pub v4 : Holds flat dag V4
+  pub v5 : Holds flat dag V5
+  pub v6 : Holds flat dag V6

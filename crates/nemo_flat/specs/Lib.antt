@@ -1,3 +1,7 @@
+pub mod Counts
 pub mod FirstDag
 pub mod Flat
+pub mod Flattened
+pub mod Keeping
 pub mod Meaning
+pub mod Table

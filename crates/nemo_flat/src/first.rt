@@ -15,9 +15,10 @@ use nemo_value::{List, NoMemory};
 use std::alloc::Global;
 
 /// The DAG that the passes begin with: an Op of one task for each flat vertex, and an edge into each of its ports, in
-/// the order of vertices and ports. That of a line is valid.
+/// the order of vertices and ports. It meets the first six clauses of a valid DAG, and that of a line is valid.
 pub fn first_dag(alloc: Global, flat: &FlatJob) -> Result<IrDag, NoMemory>
     ensures dag { IfOk result (λ dag. dag ≡ spec.first_dag flat.now) }
+    ensures rules { IfOk result (spec.IsFirst flat.now) }
     ensures valid { IsLine flat.now → IfOk result (Valid flat.now) }
 {
     let vertices = flat.vertices.as_slice();

@@ -2,9 +2,12 @@
 #![tactic(auto)]
 
 mod copies;
+mod counting;
 mod first;
+mod keeping;
 mod law;
+mod table;
 
-pub use copies::{FlattenRefused, flatten};
+pub use copies::{FlattenRefused, flat_vertices, flatten};
 pub use first::first_dag;
 pub use law::flat_law;

@@ -17,9 +17,9 @@ use Rattle.nemo_transform.specs.declared.transform.Transform.TheVariants.{Source
 use Rattle.nemo_job.specs.ByPlace.{ByPlace, Placed, first_fault, place_cmp, values}
 use Rattle.nemo_job.specs.Held.{IsGiven, arisen_at, does_sink, faults_given, known, known_value, lesser, node_of, sink_at, sinks_given}
 use Rattle.nemo_job.specs.declared.held.Held.{Held}
-use Rattle.nemo_job.specs.declared.places.Node.{Node}
+use Rattle.nemo_job.specs.declared.copies.Node.{Node}
 use Rattle.nemo_job.proofs.Feeding.{read_at, some_one}
-use Rattle.nemo_job.proofs.PlacedMean.{length_values}
+use Rattle.nemo_job.proofs.Values.{length_values}
 use Rattle.nemo_job.proofs.FirstFaults.{first_fault_both, lesser_none, lesser_joins, place_strict}
 
 -- what the vertices from an index on give, behind what those before it gave

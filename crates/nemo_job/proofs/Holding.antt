@@ -7,7 +7,7 @@ use Rattle.nemo_transform.specs.Brought.{port}
 use Rattle.nemo_job.specs.ByPlace.{ByPlace, Placed}
 use Rattle.nemo_job.specs.Held.{Feeds, IsGiven, IsHeld, IsLast, IsLower, IsReleased, Known, known, known_value, node_of}
 use Rattle.nemo_job.specs.declared.held.Held.{Held}
-use Rattle.nemo_job.specs.declared.places.Node.{Node}
+use Rattle.nemo_job.specs.declared.copies.Node.{Node}
 use Rattle.nemo_job.proofs.Feeding.{some_one}
 use Rattle.nemo_job.proofs.Values.{same_on}
 

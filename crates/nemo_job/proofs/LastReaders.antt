@@ -7,8 +7,11 @@ use Rattle.std.proofs.lemmas.Option.{slice_get_within, slice_get-map, slice_get_
 use Rattle.nemo_job.specs.ByPlace.{Placed}
 use Rattle.nemo_job.specs.Held.{IsLower, does_sink, node_of}
 use Rattle.nemo_job.specs.Readers.{IsMarked, end_of}
-use Rattle.nemo_job.proofs.NamePlaces.{no_some}
-use Rattle.nemo_job.specs.declared.places.Node.{Node}
+use Rattle.nemo_job.specs.declared.copies.Node.{Node}
+
+no_some : {X : Type 0} (o : Option X) → is_some o ≡ false → o ≡ None
+no_some None h = refl
+no_some (Some x) h = absurd (cc h)
 
 ---- marks
 

@@ -7,6 +7,10 @@ use Rattle.std.proofs.lemmas.List.{take_more, drop_more, reverse-append}
 use Rattle.std.proofs.lemmas.Map.Text.{is_eq-slice_cmp}
 use Rattle.nemo_value.specs.Texts.{same_text, all_new}
 
+pub negated : (b r : Bool) → r ≡ not b → b ≡ not r
+negated true r e = ap not (sym e)
+negated false r e = ap not (sym e)
+
 -- the names seen, the last first
 abbrev pub seen_at : ℕ → List (List ℕ) → List (List ℕ)
 seen_at i names = reverse (take i names)

@@ -1,5 +1,5 @@
 -- What each vertex gives, on what all of them give.
-use Rattle.std.proofs.Common.{◌≡◌, ◌∙◌, refl, sym, ap, subst, ℕ, zero, suc, ◌+◌, ◌<◌, List, [], ◌∷◌, ◌++◌, length, map, Some, arith, length-append}
+use Rattle.std.proofs.Common.{◌≡◌, ◌∙◌, refl, sym, ap, subst, ℕ, zero, suc, ◌+◌, ◌<◌, List, [], ◌∷◌, ◌++◌, length, map, Some, arith, length-append, add-zero}
 use Rattle.std.specs.Prelude.{slice_get}
 use Rattle.std.proofs.lemmas.List.{get_or_append_left}
 use Rattle.std.proofs.Math.Seq.{get_or-append_seam}
@@ -7,7 +7,7 @@ use Rattle.nemo_transform.specs.Brought.{port, at, nothing}
 use Rattle.nemo_job.specs.ByPlace.{ByPlace, Placed, value_after, values, values_from}
 use Rattle.nemo_job.specs.Held.{IsLower, value_at}
 
-kept : (done : List ByPlace) (ps : List Placed) (i : ℕ) → i < length done → port (values_from done ps) i ≡ port done i
+pub kept : (done : List ByPlace) (ps : List Placed) (i : ℕ) → i < length done → port (values_from done ps) i ≡ port done i
 kept done [] i low = refl
 kept done (p ∷ ps) i low =
     let v = value_after done p in
@@ -42,3 +42,10 @@ pub value_is : (ps : List Placed) (k : ℕ) (p : Placed) → IsLower ps → slic
 value_is ps k p lower e =
     let z : 0 + k ≡ k = omega arith in
     subst (λ n. port (values ps) n ≡ value_at (values ps) n p) z (later [] ps k p e (λ n j m. subst (λ l. j < l) (sym z) (lower k p n j e m)))
+
+pub length_values : (bs : List ByPlace) (ps : List Placed) → length (values_from bs ps) ≡ length bs + length ps
+length_values bs [] = sym (add-zero (length bs))
+length_values bs (p ∷ ps) =
+    let more = length-append bs (value_after bs p ∷ []) in
+    let rest = length_values (bs ++ value_after bs p ∷ []) ps in
+    omega arith

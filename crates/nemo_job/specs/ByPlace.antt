@@ -1,19 +1,12 @@
--- What each vertex of a job without loops gives, with vertices named by their places.
-use Rattle.std.specs.Prelude.{ℕ, List, [], ◌∷◌, ◌++◌, length, map, slice_get, position, Option, Some, None}
-use Rattle.std.specs.List.{filter_map}
+-- What the copies of a job's vertices give, named by their places.
+use Rattle.std.specs.Prelude.{ℕ, List, [], ◌∷◌, ◌++◌, length, map, slice_get, Option}
 use Rattle.std.specs.Ordering.{nat_cmp, ordering_then}
 use Rattle.std.specs.declared.cmp.Ordering.{Ordering}
 use Rattle.nemo_value.specs.Ascending.{ascending}
 use Rattle.nemo_value.specs.KindOrder.{kind_cmp}
 use Rattle.nemo_value.specs.Order.{record_cmp}
-use Rattle.nemo_value.specs.Texts.{same_text}
 use Rattle.nemo_transform.specs.Brought.{Arisen, Brought, port, at}
 use Rattle.nemo_transform.specs.declared.transform.Transform.{Transform}
-use Rattle.nemo_job.specs.Chain.{names_of}
-use Rattle.nemo_job.specs.declared.vertex.JobVertex.{JobVertex}
-use Rattle.nemo_job.specs.declared.vertex.Ref.{Ref}
-use Rattle.nemo_job.specs.declared.vertex.Work.{Work}
-use Rattle.nemo_job.specs.declared.vertex.Work.TheVariants.{Op}
 
 -- what a port brings, in which a vertex is named by its place
 abbrev pub ByPlace : Type 0
@@ -23,21 +16,6 @@ ByPlace = Brought ℕ
 pub record Placed : Type 0 where
   pub transform : Transform
   pub inputs : List ℕ
-
--- the place of the first vertex of a name
-abbrev pub place_of_name : List (List ℕ) → List ℕ → Option ℕ
-place_of_name names name = position (same_text name) names
-
-abbrev pub inputs_at : List (List ℕ) → List Ref → List ℕ
-inputs_at names rs = filter_map (λ r. place_of_name names r.name) rs
-
-abbrev pub placed_work : List ℕ → Work → Option Placed
-placed_work inputs (Op t) = Some (record { transform = t; inputs = inputs })
-placed_work inputs _ = None
-
--- the vertices by their places, of a list without loops
-abbrev pub placed : List JobVertex → List Placed
-placed vs = filter_map (λ v. placed_work (inputs_at (names_of vs) v.inputs) v.work) vs
 
 -- what a vertex gives on what those before it give
 abbrev pub value_after : List ByPlace → Placed → ByPlace

@@ -15,7 +15,7 @@ use Rattle.nemo_value.specs.Sorting.{sorted}
 use Rattle.nemo_value.specs.declared.record.SinkRows.{SinkRows}
 use Rattle.nemo_job.specs.declared.held.Held.{Held}
 use Rattle.nemo_job.specs.declared.held.Located.{Located}
-use Rattle.nemo_job.specs.declared.places.Node.{Node}
+use Rattle.nemo_job.specs.declared.copies.Node.{Node}
 
 -- a vertex without references to its parts
 abbrev pub node_of : Node → Placed

@@ -4,10 +4,13 @@ pub mod ChainRows
 pub mod Ends
 pub mod Fitting
 pub mod Held
-pub mod Kept
 pub mod Mean
+pub mod NamesBound
+pub mod Nodes
 pub mod Paths
-pub mod Places
 pub mod Readers
 pub mod Refusals
 pub mod Sinks
+pub mod Sites
+pub mod Unrolled
+pub mod Walks

@@ -50,9 +50,9 @@ abbrev pub turn : List (List ℕ) → List Vertex → List Ref → List ℕ → 
 turn carry body next path ports = map (look (run (map (λ v. v path) body) (carried ports carry))) next
 
 -- n turns from turn i on
-abbrev pub turns_from : ℕ → ℕ → (ℕ → List ByPath → List ByPath) → List ByPath → List ByPath
-turns_from i zero f ports = ports
-turns_from i (suc n) f ports = turns_from (i + 1) n f (f i ports)
+abbrev pub turns_from : {S : Type 0} → ℕ → ℕ → (ℕ → S → S) → S → S
+turns_from i zero f s = s
+turns_from i (suc n) f s = turns_from (i + 1) n f (f i s)
 
 abbrev pub work_step : Work-F (List ℕ → List ByPath → List ByPath) Vertex → List ℕ → List ByPath → List ByPath
 work_step (Work-F.Op t) path ports = at path t ports ∷ []

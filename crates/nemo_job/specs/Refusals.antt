@@ -1,77 +1,129 @@
 -- Why vertices are no job: the first code that fails anywhere, with its least place.
-use Rattle.std.specs.Prelude.{◌≡◌, ℕ, ◌+◌, ◌==◌, ◌&&◌, Bool, true, false, not, if◌then◌else◌, List, [], ◌∷◌, length, take, drop, Option, Some, None, option_map}
+use Rattle.std.specs.Prelude.{◌≡◌, ℕ, ◌+◌, ◌-◌, ◌^◌, ◌==◌, ◌&&◌, ◌||◌, min, nat_le, nat_lt, Bool, true, false, not, if◌then◌else◌, List, [], ◌∷◌, ◌++◌, length, map, Option, Some, None, option_map}
 use Rattle.std.specs.List.{list_all, list_any}
 use Rattle.std.specs.Option.{option_or}
-use Rattle.nemo_value.specs.Texts.{same_text}
+use Rattle.nemo_value.specs.Names.{is_name}
+use Rattle.nemo_value.specs.Texts.{same_text, all_new}
 use Rattle.nemo_transform.specs.Ports.{kinds_of}
 use Rattle.nemo_transform.specs.Soundness.{is_few}
-use Rattle.nemo_transform.specs.declared.transform.Transform.TheVariants.{Union}
+use Rattle.nemo_transform.specs.declared.transform.Transform.{Transform}
+use Rattle.nemo_transform.specs.declared.transform.Transform.TheVariants.{Source, Union, Sink}
 use Rattle.nemo_job.specs.Fitting.{are_fitting}
 use Rattle.nemo_job.specs.Sinks.{is_sink}
+use Rattle.nemo_job.specs.Sites.{Doing, Does, Loops, Face, Site, port_face, sites}
 use Rattle.nemo_job.specs.declared.job.JobRefused.{JobRefused}
 use Rattle.nemo_job.specs.declared.job.JobRefused.TheVariants as job
 use Rattle.nemo_job.specs.declared.vertex.JobVertex.{JobVertex}
 use Rattle.nemo_job.specs.declared.vertex.Ref.{Ref}
-use Rattle.nemo_job.specs.declared.vertex.Work.{Work}
-use Rattle.nemo_job.specs.declared.vertex.Work.TheVariants.{Op}
 
--- the first place, counted from i, of a vertex of which this is so
-abbrev pub first_where : (ℕ → JobVertex → Bool) → ℕ → List JobVertex → Option ℕ
+-- the first place, counted from i, of an item of which this is so
+abbrev pub first_where : {X : Type 0} → (X → Bool) → ℕ → List X → Option ℕ
 first_where P i [] = None
-first_where P i (v ∷ vs) = if P i v then Some i else first_where P (i + 1) vs
+first_where P i (x ∷ xs) = if P x then Some i else first_where P (i + 1) xs
 
-abbrev pub has_name : List ℕ → JobVertex → Bool
-has_name name v = same_text v.name name
+abbrev pub has_name : List ℕ → Face → Bool
+has_name name f = same_text f.name name
 
--- code 3: a vertex before this one has its name
-abbrev pub is_double : List JobVertex → ℕ → JobVertex → Bool
-is_double vs i v = list_any (has_name v.name) (take i vs)
+---- code 3: what stands before has the name, or two ports have one name
 
--- port 0 of a vertex that is no sink
-abbrev pub is_known : List JobVertex → Ref → Bool
-is_known vs r = r.port == 0 && list_any (λ w. has_name r.name w && not (is_sink w.work)) vs
+abbrev pub has_double : Doing → Bool
+has_double (Does t) = false
+has_double (Loops turns carry body next) = not (all_new [] carry)
 
--- code 4: an input names nothing, or a sink, or a port that isn't there
-abbrev pub names_unknown : List JobVertex → ℕ → JobVertex → Bool
-names_unknown vs i v = not (list_all (is_known vs) v.inputs)
+abbrev pub is_double : Site → Bool
+is_double s = list_any (has_name s.name) s.before || has_double s.doing
 
--- code 5: an input names the vertex itself or a later one
-abbrev pub is_forward : List JobVertex → ℕ → JobVertex → Bool
-is_forward vs i v = list_any (λ r. list_any (has_name r.name) (drop i vs)) v.inputs
+---- code 4: an input, or what `next` names, names nothing, or a sink, or a port that isn't there
 
--- as many inputs as the work has ports, and 1 to 16 for a union; loops come later
-abbrev pub has_ports : ℕ → Work → Bool
-has_ports inputs (Op (Union ports)) = is_few inputs
-has_ports inputs (Op t) = inputs == length (kinds_of t)
-has_ports inputs _ = false
+abbrev pub gives_none : Option Transform → Bool
+gives_none (Some (Sink name)) = true
+gives_none _ = false
 
--- code 6: the number of inputs isn't that of the ports
-abbrev pub is_misfed : ℕ → JobVertex → Bool
-is_misfed i v = not (has_ports (length v.inputs) v.work)
+-- the first of a name
+abbrev pub face_named : List ℕ → List Face → Option Face
+face_named name [] = None
+face_named name (f ∷ fs) = if same_text f.name name then Some f else face_named name fs
 
--- code 8: there is no sink
+abbrev pub has_port : ℕ → Option Face → Bool
+has_port port (Some f) = not (gives_none f.transform) && nat_lt port f.ports
+has_port port None = false
+
+abbrev pub is_known : List Face → Ref → Bool
+is_known fs r = has_port r.port (face_named r.name fs)
+
+abbrev pub is_next_known : Doing → Bool
+is_next_known (Does t) = true
+is_next_known (Loops turns carry body next) = list_all (is_known (map port_face carry ++ body)) next
+
+abbrev pub names_unknown : Site → Bool
+names_unknown s = not (list_all (is_known (s.before ++ s.from)) s.inputs && is_next_known s.doing)
+
+---- code 5: an input names the vertex itself or a later one
+
+abbrev pub is_later : Site → Ref → Bool
+is_later s r = not (list_any (has_name r.name) s.before) && list_any (has_name r.name) s.from
+
+abbrev pub is_forward : Site → Bool
+is_forward s = list_any (is_later s) s.inputs
+
+---- code 6: the number of inputs isn't that of the ports, which is 1 to 16 for a union
+
+abbrev pub has_ports : ℕ → Doing → Bool
+has_ports inputs (Does (Union ports)) = is_few inputs
+has_ports inputs (Does t) = inputs == length (kinds_of t)
+has_ports inputs (Loops turns carry body next) = inputs == length carry
+
+abbrev pub is_misfed : Site → Bool
+is_misfed s = not (has_ports (length s.inputs) s.doing)
+
+---- code 7: not 1 to 64 turns, not 1 to 16 ports, `next` of another length, more than two loops around it, or a source
+---- or sink in the body
+
+abbrev pub is_end : Option Transform → Bool
+is_end (Some (Source rows)) = true
+is_end (Some (Sink name)) = true
+is_end _ = false
+
+abbrev pub is_good : ℕ → Doing → Bool
+is_good depth (Does t) = true
+is_good depth (Loops turns carry body next) =
+    nat_le 1 turns && nat_le turns 64 && is_few (length carry) && length next == length carry && nat_lt depth 3 && not (list_any (λ f. is_end f.transform) body)
+
+abbrev pub is_bad_loop : Site → Bool
+is_bad_loop s = not (is_good s.depth s.doing)
+
+---- code 8: there is no sink
+
 abbrev pub sinkless : List JobVertex → Option ℕ
 sinkless vs = if list_any (λ v. is_sink v.work) vs then None else Some 0
+
+---- the first refusal
 
 -- a code, and a place
 pub record Refusal : Type 0 where
   pub code : ℕ
   pub place : ℕ
 
+-- a place beyond 2^64-1 is given as 2^64-1
 abbrev pub coded : ℕ → Option ℕ → Option Refusal
-coded code place = option_map (λ p. record { code = code; place = p }) place
+coded code place = option_map (λ p. record { code = code; place = min p (2 ^ 64 - 1) }) place
 
--- the first code that fails, with its least place; code 7 is about loops
+abbrev pub found : ℕ → (Site → Bool) → List Site → Option Refusal
+found code P ss = coded code (first_where P 0 ss)
+
+-- the first code that fails, with its least place
 abbrev pub refusal_of : List JobVertex → Option Refusal
 refusal_of vs =
-    option_or (coded 3 (first_where (is_double vs) 0 vs))
-    (option_or (coded 4 (first_where (names_unknown vs) 0 vs))
-    (option_or (coded 5 (first_where (is_forward vs) 0 vs))
-    (option_or (coded 6 (first_where is_misfed 0 vs))
-    (coded 8 (sinkless vs)))))
+    option_or (found 3 is_double (sites vs))
+    (option_or (found 4 names_unknown (sites vs))
+    (option_or (found 5 is_forward (sites vs))
+    (option_or (found 6 is_misfed (sites vs))
+    (option_or (found 7 is_bad_loop (sites vs))
+    (coded 8 (sinkless vs))))))
 
 -- what a job keeps
 pub record IsJob (vs : List JobVertex) : Type 0 where
+  pub named : list_all (λ s. is_name s.name) (sites vs) ≡ true
   pub fitting : are_fitting vs ≡ true
   pub fine : refusal_of vs ≡ None
 

@@ -1,18 +1,21 @@
-ghost use Rattle.std.specs.Prelude.{◌≡◌, ◌<◌, [], length, map, option_map, true, IfOk, IfErr};
+ghost use Rattle.std.specs.Prelude.{◌≡◌, ◌<◌, ◌≤◌, [], length, map, option_map, true, IfOk, IfErr};
 ghost use Rattle.std.specs.Cow.{cow_slice_items};
 ghost use Rattle.nemo_value.specs.Order.{record_cmp};
 ghost use Rattle.nemo_value.specs.Sorting.{sorted};
 ghost use Rattle.nemo_value.specs.Texts.{all_new};
 ghost use Rattle.nemo_job.specs.ByPlace.{first_fault, values};
-ghost use Rattle.nemo_job.specs.Ends.{IsEndOf, by_path, fault_end};
+ghost use Rattle.nemo_job.specs.Ends.{IsEndOf, fault_end};
 ghost use Rattle.nemo_job.specs.Held.{IsGiven, IsPlaced, arisen_at, faults_given, known, node_of, sinks_given};
+ghost use Rattle.nemo_job.specs.Nodes.{copy_of};
 ghost use Rattle.nemo_job.specs.Sinks as spec;
 ghost use Rattle.nemo_job.specs.Sinks.{job_rows, job_faults};
+ghost use Rattle.nemo_job.specs.Unrolled.{path_in};
 
+use crate::copies::Node;
 use crate::held::{Held, Located, earlier, nothing, step};
 use crate::job::Job;
-use crate::places::{Node, last_readers, nodes_of};
-use crate::vertex::JobVertex;
+use crate::readers::last_readers;
+use crate::unrolling::unroll;
 use nemo_transform::Transform;
 use nemo_value::{Kind, List, Name, NoMemory, Record, SinkRows, Text, TryCopy, sort_records};
 use std::alloc::Global;
@@ -44,13 +47,28 @@ pub fn eval_job(alloc: Global, job: &Job) -> Result<Vec<SinkRows>, JobEnd>
     ensures sound { IfOk result (λ sinks. job_faults job.now ≡ []) }
     ensures end { IfErr result (IsEndOf job.now) }
 {
-    let vertices = job.vertices().as_slice();
-    let nodes = nodes_of(alloc, vertices)?;
+    let nodes = unroll(alloc, job.vertices().as_slice())?;
     let held = all_held(alloc, nodes.as_slice())?;
     let Ending { sinks, first } = collected(alloc, nodes.as_slice(), held)?;
     match first {
-        Some(fault) => Err(end_at(alloc, vertices, fault)?),
+        Some(fault) => Err(end_at(alloc, nodes.as_slice(), fault)?),
         None => Ok(by_name(sinks)),
+    }
+}
+
+/// The end of a job by a fault, which is named by the path of the copy where it arose.
+fn end_at(alloc: Global, nodes: &[Node<'_>], fault: Located) -> Result<JobEnd, NoMemory>
+    requires within { fault.place < length nodes.now }
+    requires short { length (path_in (map copy_of nodes.now) fault.place) ≤ 65535 }
+    ensures { IfOk result (λ end. end ≡ fault_end (record { vertex = path_in (map copy_of nodes.now) fault.place; kind = fault.kind; rec = fault.rec })) }
+{
+    match Text::from_str(alloc, nodes[fault.place].path.as_str())? {
+        Some(name) => Ok(JobEnd::Fault {
+            name,
+            kind: fault.kind,
+            rec: fault.rec,
+        }),
+        None => unreachable!(),
     }
 }
 
@@ -63,29 +81,7 @@ fn by_name(mut sinks: Vec<SinkRows>) -> Vec<SinkRows>
     sinks
 }
 
-/// The end of a job by a fault.
-fn end_at(alloc: Global, vertices: &[JobVertex], fault: Located) -> Result<JobEnd, NoMemory>
-    requires { fault.place < length vertices.now }
-    ensures { IfOk result (λ end. end ≡ fault_end (by_path vertices.now (arisen_at fault))) }
-{
-    Ok(JobEnd::Fault {
-        name: path_of(alloc, &vertices[fault.place].name)?,
-        kind: fault.kind,
-        rec: fault.rec,
-    })
-}
-
-/// A name as the path of a vertex that stands in no loop.
-pub fn path_of(alloc: Global, name: &Name) -> Result<Text, NoMemory>
-    ensures { IfOk result (λ path. path ≡ name.now) }
-{
-    match Text::from_str(alloc, name.as_str())? {
-        Some(path) => Ok(path),
-        None => unreachable!(),
-    }
-}
-
-/// What each vertex gave. The rows of the sinks are there.
+/// What each copy gave. The rows of the sinks are there.
 fn all_held<'a>(alloc: Global, nodes: &[Node<'a>]) -> Result<Vec<Held<'a>>, NoMemory>
     requires { IsPlaced (map node_of nodes.now) }
     ensures { IfOk result (λ held. IsGiven (map node_of nodes.now) (values (map node_of nodes.now)) (map known held.items)) }

@@ -7,7 +7,7 @@ ghost use Rattle.nemo_transform.specs.Soundness.{is_sound};
 ghost use Rattle.nemo_job.specs.ByPlace.{ByPlace, first_fault, place_cmp};
 ghost use Rattle.nemo_job.specs.Held.{Feeds, IsReleased, answers_at, arisen_at, known, known_value, lesser, node_of, value_at};
 
-use crate::places::Node;
+use crate::copies::Node;
 use nemo_transform::{Fault, Transform, apply, ports};
 use nemo_value::{Kind, List, NoMemory, Record, TryCopy};
 use std::alloc::Global;

@@ -49,11 +49,14 @@ impl From<NoMemory> for JobRefused {
 }
 
 impl Job {
-    /// The vertices as a job. They have to be fitting: for now no loops, a union with as many ports as inputs, a sink
-    /// with its vertex's name, and any other transform sound. Refused is the first code that fails anywhere, with its
-    /// least place, counted from 0: a name that a vertex before has (3), an input that names nothing, a sink, or a port
-    /// that isn't there (4), an input that names the vertex itself or a later one (5), another number of inputs than of
-    /// ports (6), and no sink at all (8, at 0).
+    /// The vertices as a job. They have to be fitting, also those in the bodies of loops: a union has as many ports as
+    /// inputs, a sink its vertex's name, and any other transform is sound. Refused is the first code that fails
+    /// anywhere, with its least place, where vertices are counted from 0 in list order and a loop before its body:
+    /// a name that a vertex before it in its list, or a port of the loop around it, has, or two ports of one name at
+    /// the place of their loop (3); an input, or what `next` of a loop names, that names nothing, a sink, or a port
+    /// that isn't there (4); an input that names the vertex itself or a later one (5); another number of inputs than of
+    /// ports (6); a loop of not 1 to 64 turns or not 1 to 16 ports, whose `next` has another length, with more than two
+    /// loops around it, or with a source or a sink in its body (7); and no sink at all (8, at 0).
     pub fn new(alloc: Global, vertices: Vec<JobVertex>) -> Result<Job, JobRefused>
         requires { are_fitting vertices.items ≡ true }
         ensures ok { IfOk result (λ job. job ≡ vertices.items) }

@@ -2,16 +2,22 @@
 #![tactic(auto)]
 
 mod chain;
+mod copies;
 mod evaluate;
 mod held;
 mod job;
-mod kept;
-mod places;
+mod names;
+mod paths;
+mod readers;
 mod refusals;
+mod scope;
+mod site;
+mod unrolling;
 mod vertex;
 
 pub use chain::is_chain;
-pub use evaluate::{JobEnd, eval_job, path_of};
+pub use copies::Node;
+pub use evaluate::{JobEnd, eval_job};
 pub use job::{Job, JobRefused};
-pub use kept::count_kept;
+pub use unrolling::unroll;
 pub use vertex::{JobVertex, Ref, Work};

@@ -1,14 +1,19 @@
-ghost use Rattle.std.specs.Prelude.{◌≡◌, length, None, IfErr, IfOk, OnOk};
-ghost use Rattle.std.specs.List.{list_any};
-ghost use Rattle.nemo_job.specs.Places.{AreNew, HasPlaces, is_from, place_in};
+ghost use Rattle.std.specs.Prelude.{◌≡◌, None, map, IfErr, IfOk, OnOk, true};
+ghost use Rattle.std.specs.List.{list_all, list_any};
+ghost use Rattle.nemo_value.specs.Names.{is_name};
 ghost use Rattle.nemo_job.specs.Refusals as spec;
-ghost use Rattle.nemo_job.specs.Refusals.{IsCoded, IsRefused, first_where};
+ghost use Rattle.nemo_job.specs.Refusals.{IsCoded, IsRefused};
 ghost use Rattle.nemo_job.specs.Sinks as sinks;
+ghost use Rattle.nemo_job.specs.Sites.{port_face, sites, sites_after, standing, working};
+ghost use Rattle.nemo_job.specs.Walks as walks;
+ghost use Rattle.nemo_job.specs.Walks.{HasFaces, IsFirst, WalkedAt, at_place, seen, with_body};
 
 use crate::job::JobRefused;
-use crate::vertex::{JobVertex, Ref, Work};
-use nemo_transform::{Transform, ports};
-use nemo_value::NoMemory;
+use crate::scope::{Named, scope_of};
+use crate::site::{Fails, MAX_AROUND, loop_fails, outer_fails};
+use crate::vertex::{JobVertex, Work};
+use nemo_transform::Transform;
+use nemo_value::{Name, NoMemory};
 use std::alloc::Global;
 use std::collections::BTreeMap;
 
@@ -20,167 +25,149 @@ const FORWARD: u32 = 5;
 
 const PORT_COUNT: u32 = 6;
 
+const BAD_LOOP: u32 = 7;
+
 const NO_SINK: u32 = 8;
+
+/// How many vertices a walk met, and the first of them at which each code fails.
+#[derive(Clone, Copy)]
+struct Found {
+    count: u64,
+    double: Option<u64>,
+    unknown: Option<u64>,
+    forward: Option<u64>,
+    misfed: Option<u64>,
+    bad_loop: Option<u64>,
+}
+
+impl Found {
+    fn new() -> Found
+        ensures { result ≡ walks.nothing }
+    {
+        Found {
+            count: 0,
+            double: None,
+            unknown: None,
+            forward: None,
+            misfed: None,
+            bad_loop: None,
+        }
+    }
+
+    /// What is found with one more vertex.
+    fn note(self, fails: Fails) -> Found
+        ensures { result ≡ walks.note fails self }
+    {
+        let here = self.count;
+        Found {
+            count: here.saturating_add(1),
+            double: first_of(self.double, fails.double, here),
+            unknown: first_of(self.unknown, fails.unknown, here),
+            forward: first_of(self.forward, fails.forward, here),
+            misfed: first_of(self.misfed, fails.misfed, here),
+            bad_loop: first_of(self.bad_loop, fails.bad_loop, here),
+        }
+    }
+}
+
+fn first_of(noted: Option<u64>, fails: bool, here: u64) -> Option<u64>
+    ensures { result ≡ walks.first_of noted fails here }
+{
+    match noted {
+        Some(place) => Some(place),
+        None => if fails { Some(here) } else { None },
+    }
+}
 
 /// Ok where nothing is refused, and else the first refusal.
 pub(crate) fn look_at(alloc: Global, vertices: &[JobVertex]) -> Result<(), JobRefused>
     ensures ok { OnOk result (spec.refusal_of vertices.now ≡ None) }
+    ensures named { OnOk result (list_all (λ s. is_name s.name) (sites vertices.now) ≡ true) }
     ensures err { IfErr result (IsRefused vertices.now) }
 {
-    let (places, double) = places_of(alloc, vertices)?;
-    refuse_at(DOUBLE_NAME, double)?;
-    refuse_at(UNKNOWN_INPUT, first_unknown(vertices, &places))?;
-    refuse_at(FORWARD, first_forward(vertices, &places))?;
-    refuse_at(PORT_COUNT, first_misfed(vertices))?;
+    let found = walk_all(alloc, vertices)?;
+    refuse_at(DOUBLE_NAME, found.double)?;
+    refuse_at(UNKNOWN_INPUT, found.unknown)?;
+    refuse_at(FORWARD, found.forward)?;
+    refuse_at(PORT_COUNT, found.misfed)?;
+    refuse_at(BAD_LOOP, found.bad_loop)?;
     refuse_at(NO_SINK, sinkless(vertices))
 }
 
-fn refuse_at(code: u32, place: Option<usize>) -> Result<(), JobRefused>
+fn refuse_at(code: u32, place: Option<u64>) -> Result<(), JobRefused>
     ensures ok { OnOk result (place ≡ None) }
-    ensures err { IfErr result (IsCoded (spec.coded code place)) }
+    ensures err { IfErr result (IsCoded (at_place code place)) }
 {
     match place {
-        Some(place) => Err(JobRefused::Refused {
-            code,
-            place: place as u64,
-        }),
+        Some(place) => Err(JobRefused::Refused { code, place }),
         None => Ok(()),
     }
 }
 
-/// The first place of each name, and the first place of a vertex whose name a vertex before it has.
-pub(crate) fn places_of<'a>(
+fn walk_all(alloc: Global, vertices: &[JobVertex]) -> Result<Found, NoMemory>
+    ensures named { OnOk result (list_all (λ s. is_name s.name) (sites vertices.now) ≡ true) }
+    ensures double { IfOk result (λ f. IsFirst spec.is_double (sites vertices.now) f.double) }
+    ensures unknown { IfOk result (λ f. IsFirst spec.names_unknown (sites vertices.now) f.unknown) }
+    ensures forward { IfOk result (λ f. IsFirst spec.is_forward (sites vertices.now) f.forward) }
+    ensures misfed { IfOk result (λ f. IsFirst spec.is_misfed (sites vertices.now) f.misfed) }
+    ensures bad_loop { IfOk result (λ f. IsFirst spec.is_bad_loop (sites vertices.now) f.bad_loop) }
+{
+    let scope = scope_of(alloc, &[], vertices)?;
+    walk_list(alloc, &scope, &[], vertices, 0, Found::new())
+}
+
+/// What is found after the vertices of a list and of the bodies in it.
+#[cycle(walk)]
+fn walk_list<'a>(
     alloc: Global,
+    scope: &BTreeMap<&'a str, Named>,
+    carry: &'a [Name],
     vertices: &'a [JobVertex],
-) -> Result<(BTreeMap<&'a str, usize>, Option<usize>), NoMemory>
-    ensures places { IfOk result (λ r. HasPlaces vertices.now r.0) }
-    ensures double { IfOk result (λ r. r.1 ≡ first_where (spec.is_double vertices.now) 0 vertices.now) }
+    depth: u32,
+    found: Found,
+) -> Result<Found, NoMemory>
+    requires { HasFaces (seen carry.now vertices.now) scope.now }
+    ensures { IfOk result (WalkedAt depth (λ d. sites_after (map port_face carry.now) d (map standing vertices.now)) found) }
 {
-    let mut places: BTreeMap<&'a str, usize> = BTreeMap::new(alloc);
-    let mut double = None;
+    let mut found = found;
     for (place, v) in vertices.iter().enumerate() {
-        let name = v.name.as_str();
-        if places.contains_key(&name) {
-            double = double.or(Some(place));
-        } else {
-            places.insert(name, place)?;
-        }
+        let fails = outer_fails(scope, carry.len() + place, depth, v);
+        found = walk_work(alloc, &v.work, fails, depth, found)?;
     }
-    Ok((places, double))
+    Ok(found)
 }
 
-/// The first vertex with an input that names nothing, a sink, or a port that isn't there.
-fn first_unknown<'a>(vertices: &'a [JobVertex], places: &BTreeMap<&'a str, usize>) -> Option<usize>
-    requires places { HasPlaces vertices.now places.now }
-    requires differ { AreNew vertices.now }
-    ensures { result ≡ first_where (spec.names_unknown vertices.now) 0 vertices.now }
-{
-    for (place, v) in vertices.iter().enumerate() {
-        if names_unknown(vertices, places, v) {
-            return Some(place);
-        }
-    }
-    None
-}
-
-fn names_unknown<'a>(
-    vertices: &[JobVertex],
-    places: &BTreeMap<&'a str, usize>,
-    v: &'a JobVertex,
-) -> bool
-    requires places { HasPlaces vertices.now places.now }
-    requires differ { AreNew vertices.now }
-    ensures { result ≡ spec.names_unknown vertices.now 0 v.now }
-{
-    for r in v.inputs.as_slice() {
-        if !is_known(vertices, places, r) {
-            return true;
-        }
-    }
-    false
-}
-
-fn is_known<'a>(vertices: &[JobVertex], places: &BTreeMap<&'a str, usize>, r: &'a Ref) -> bool
-    requires places { HasPlaces vertices.now places.now }
-    requires differ { AreNew vertices.now }
-    ensures { result ≡ spec.is_known vertices.now r.now }
-{
-    match places.get(&r.name.as_str()) {
-        Some(place) => r.port == 0 && !is_sink(&vertices[*place].work),
-        None => false,
-    }
-}
-
-pub(crate) fn is_sink(work: &Work) -> bool
-    ensures { result ≡ sinks.is_sink work.now }
-{
-    matches!(work, Work::Op(Transform::Sink { .. }))
-}
-
-/// The first vertex with an input that names it or a later one.
-fn first_forward<'a>(vertices: &'a [JobVertex], places: &BTreeMap<&'a str, usize>) -> Option<usize>
-    requires places { HasPlaces vertices.now places.now }
-    requires differ { AreNew vertices.now }
-    ensures { result ≡ first_where (spec.is_forward vertices.now) 0 vertices.now }
-{
-    for (place, v) in vertices.iter().enumerate() {
-        if is_forward(places, place, v.inputs.as_slice()) {
-            return Some(place);
-        }
-    }
-    None
-}
-
-fn is_forward<'a>(places: &BTreeMap<&'a str, usize>, place: usize, inputs: &'a [Ref]) -> bool
-    ensures { result ≡ list_any (λ r. is_from place (place_in places.now r.name)) inputs.now }
-{
-    for r in inputs {
-        if is_from(places, place, r) {
-            return true;
-        }
-    }
-    false
-}
-
-fn is_from<'a>(places: &BTreeMap<&'a str, usize>, place: usize, r: &'a Ref) -> bool
-    ensures { result ≡ is_from place (place_in places.now r.now.name) }
-{
-    match places.get(&r.name.as_str()) {
-        Some(named) => *named >= place,
-        None => false,
-    }
-}
-
-/// The first vertex whose number of inputs isn't that of its ports.
-fn first_misfed(vertices: &[JobVertex]) -> Option<usize>
-    ensures { result ≡ first_where spec.is_misfed 0 vertices.now }
-{
-    for (place, v) in vertices.iter().enumerate() {
-        if !has_ports(v.inputs.len(), &v.work) {
-            return Some(place);
-        }
-    }
-    None
-}
-
-/// The most ports of a union.
-const MAX_PORTS: usize = 16;
-
-fn has_ports(inputs: usize, work: &Work) -> bool
-    ensures { result ≡ spec.has_ports inputs work.now }
+/// What is found after a vertex at which these codes fail so far, and after its body.
+#[cycle(walk)]
+fn walk_work(
+    alloc: Global,
+    work: &Work,
+    fails: Fails,
+    depth: u32,
+    found: Found,
+) -> Result<Found, NoMemory>
+    ensures { IfOk result (WalkedAt depth (working work.now).sites (walks.note (with_body (working work.now).doing fails) found)) }
 {
     match work {
-        Work::Op(Transform::Union { .. }) => 1 <= inputs && inputs <= MAX_PORTS,
-        Work::Op(transform) => {
-            let ports = ports(transform);
-            inputs as u64 == u64::from(ports.main) + u64::from(ports.keyed) + u64::from(ports.side)
+        Work::Op(_) => Ok(found.note(fails)),
+        Work::Loop {
+            carry,
+            body,
+            next,
+            ..
+        } => {
+            let carry = carry.as_slice();
+            let body = body.as_slice();
+            let scope = scope_of(alloc, carry, body)?;
+            let fails = loop_fails(alloc, &scope, carry, next.as_slice(), fails)?;
+            let around = depth.min(MAX_AROUND) + 1;
+            walk_list(alloc, &scope, carry, body, around, found.note(fails))
         }
-        Work::Loop { .. } => false,
     }
 }
 
 /// The place 0, where there is no sink.
-fn sinkless(vertices: &[JobVertex]) -> Option<usize>
+fn sinkless(vertices: &[JobVertex]) -> Option<u64>
     ensures { result ≡ spec.sinkless vertices.now }
 {
     if has_sink(vertices) { None } else { Some(0) }
@@ -190,4 +177,10 @@ fn has_sink(vertices: &[JobVertex]) -> bool
     ensures { result ≡ list_any (λ v. sinks.is_sink v.work) vertices.now }
 {
     vertices.iter().any(|v| is_sink(&v.work))
+}
+
+pub(crate) fn is_sink(work: &Work) -> bool
+    ensures { result ≡ sinks.is_sink work.now }
+{
+    matches!(work, Work::Op(Transform::Sink { .. }))
 }

@@ -1,17 +1,18 @@
 -- What a call answers, and why.
-use Rattle.std.specs.Prelude.{◌≡◌, ◌<◌, ◌≤◌, ◌-◌, ℕ, List, [], ◌∷◌, ◌++◌, length, true, false, Option, Some, None, IfSome, IsUtf8, Result, Ok, Err, unwrap_or, slice_get, if◌then◌else◌}
+use Rattle.std.specs.Prelude.{◌≡◌, ◌<◌, ◌≤◌, ◌-◌, ℕ, List, [], ◌∷◌, ◌++◌, length, true, false, Option, Some, None, IfSome, IsUtf8, Result, Ok, Err, unwrap_or, slice_get}
 use Rattle.serde_json.specs.Data.{Data}
 use Rattle.serde_json.specs.Read.{read}
 use Rattle.nemo_io.specs.Faults.{Rose}
 use Rattle.nemo_io.specs.Told.{IfTold}
-use Rattle.nemo_job.specs.Chain.{is_built, is_chain}
 use Rattle.nemo_job.specs.Sinks.{job_faults, job_rows}
+use Rattle.nemo_job.specs.declared.vertex.JobVertex.{JobVertex}
 use Rattle.nemo_transform.specs.Gives.{Row}
 use Rattle.nemo_value.specs.declared.expr.Kind.{Kind}
-use Rattle.nemo_bundle.specs.Answers.{Refusal, unserved}
+use Rattle.nemo_bundle.specs.Answers.{Refusal}
 use Rattle.nemo_bundle.specs.Read.{bundle_of}
 use Rattle.nemo_bundle.specs.declared.bundle.Bundle.{Bundle}
-use Rattle.nemo_flat.specs.Flat.{flat_of}
+use Rattle.nemo_bundle.specs.declared.end.BundleEnd.{BundleEnd}
+use Rattle.nemo_bundle.specs.declared.end.BundleEnd.TheVariants as end
 use Rattle.nemo_flat.specs.Meaning.{flat_rows}
 use Rattle.nemo_ir.specs.Flat.{FlatForm}
 use Rattle.nemo_ir.specs.Valid.{Valid, FirstFailure}
@@ -24,6 +25,7 @@ use Rattle.nemo_laws.specs.Written.{written}
 use Rattle.nemo_plan.specs.Form.{PlanForm}
 use Rattle.nemo_policy.specs.Passes.{plain_dag}
 use Rattle.nemo_report.specs.Texts.{sinks_text}
+use Rattle.nemo_top.specs.Served.{served}
 use Rattle.nemo_top.specs.Statuses.{last_line, accepted_line}
 use Rattle.nemo_top.specs.Words.{command_of, is_command}
 use Rattle.nemo_top.specs.declared.word.Command.{Command}
@@ -46,22 +48,11 @@ call_of words before after faults now = record { words = words; before = before;
 abbrev pub IsJson : List ℕ → Data → Type 0
 IsJson bytes d = IsUtf8 bytes × (read bytes ≡ Some d)
 
--- a bundle whose job is a chain; no other is served
-abbrev pub chained : Result Bundle Refusal → Result Bundle Refusal
-chained (Ok b) = if is_chain b.job then Ok b else Err unserved
-chained (Err r) = Err r
-
--- the bundle that a command reads: `check` and `solo` serve chains for now
+-- the bundle that a command reads
 abbrev pub bundle_for : Command → Data → Result Bundle Refusal
 bundle_for Eval d = bundle_of d
-bundle_for Check d = chained (bundle_of d)
-bundle_for Solo d = chained (bundle_of d)
-
--- what a command needs of a bundle that it serves
-abbrev pub IsServed : Command → Bundle → Type 0
-IsServed Eval b = Unit {0}
-IsServed Check b = is_built b.job ≡ true
-IsServed Solo b = is_built b.job ≡ true
+bundle_for Check d = served d (bundle_of d)
+bundle_for Solo d = served d (bundle_of d)
 
 -- the bytes are this bundle of a command
 abbrev pub IsBundle : Command → List ℕ → Bundle → Type 0
@@ -88,10 +79,10 @@ ReadsAll call P = IfTold call.before call.after (λ all rest. (rest ≡ []) × P
 
 -- the DAG of a bundle: the one that it proposes, or what the plain policy makes of its job
 abbrev pub dag_of : Bundle → IrDag
-dag_of b = unwrap_or b.dag (plain_dag (flat_of b.job) b.parallelism)
+dag_of b = unwrap_or b.dag (plain_dag b.flat b.parallelism)
 
 abbrev pub plan_of : Bundle → PlanForm
-plan_of b = record { flat = flat_of b.job; dag = dag_of b }
+plan_of b = record { flat = b.flat; dag = dag_of b }
 
 -- the settings of a run
 abbrev pub standard : Settings
@@ -102,7 +93,7 @@ standard = record { reserved = 1; transient = 0; loss_bound = 8; piece = 65536; 
 -- job gives to its sinks.
 pub record IsSoloDone (b : Bundle) (log : List Event) : Type 0 where
   pub faultless : job_faults b.job ≡ []
-  pub valid : Valid (flat_of b.job) (dag_of b)
+  pub valid : Valid b.flat (dag_of b)
   pub run : IsDoneRun (plan_of b) standard [] log
   pub sinks : written (plan_of b) standard log ≡ job_rows b.job
 
@@ -110,7 +101,7 @@ pub record IsSoloDone (b : Bundle) (log : List Event) : Type 0 where
 -- valid, and `solo` after a run
 abbrev pub IsDone : Command → Bundle → List Event → Type 0
 IsDone Eval b log = (job_faults b.job ≡ []) × (log ≡ [])
-IsDone Check b log = Valid (flat_of b.job) (dag_of b) × (log ≡ [])
+IsDone Check b log = Valid b.flat (dag_of b) × (log ≡ [])
 IsDone Solo b log = IsSoloDone b log
 
 -- what it then writes: the sinks of the job and a last line, or how large the DAG is
@@ -139,8 +130,8 @@ IsFaulty Solo b name kind rec = ⊥
 -- `eval` doesn't look at it
 abbrev pub IsDagRefused : Command → Bundle → ℕ → ℕ → Type 0
 IsDagRefused Eval b clause index = ⊥
-IsDagRefused Check b clause index = FailsFirst (flat_of b.job) b.dag clause index
-IsDagRefused Solo b clause index = FailsFirst (flat_of b.job) b.dag clause index
+IsDagRefused Check b clause index = FailsFirst b.flat b.dag clause index
+IsDagRefused Solo b clause index = FailsFirst b.flat b.dag clause index
 
 -- the words are this command, and the content is a bundle of which P holds for it
 abbrev pub Finds : Call → (Command → Bundle → Type 0) → Type 0
@@ -234,11 +225,32 @@ Runs command b (TransformFault name kind rec) log text = (log ≡ []) × IsFault
 Runs command b NoMemory log text = (log ≡ []) × (text ≡ last_line NoMemory)
 Runs command b _ log text = ⊥
 
+-- what a job leads to that is evaluated
+abbrev pub Evaluates : List JobVertex → Status → List Event → List ℕ → Type 0
+Evaluates job Done log text = (job_faults job ≡ []) × (log ≡ []) × (text ≡ sinks_text (job_rows job) ++ last_line Done)
+Evaluates job (TransformFault name kind rec) log text = (log ≡ []) × (slice_get (job_faults job) 0 ≡ Some (record { vertex = name; kind = kind; rec = rec })) × (text ≡ last_line (TransformFault name kind rec))
+Evaluates job NoMemory log text = (log ≡ []) × (text ≡ last_line NoMemory)
+Evaluates job _ log text = ⊥
+
 -- what a refusal leads to
-abbrev pub Refuses : ℕ → ℕ → Status → List ℕ → Type 0
-Refuses c p (BundleRefused code place) text = (code ≡ c) × (place ≡ p) × (text ≡ last_line (BundleRefused c p))
-Refuses c p NoMemory text = text ≡ last_line NoMemory
-Refuses c p _ text = ⊥
+abbrev pub RefusesAt : ℕ → ℕ → Status → List ℕ → Type 0
+RefusesAt c p (BundleRefused code place) text = (code ≡ c) × (place ≡ p) × (text ≡ last_line (BundleRefused c p))
+RefusesAt c p NoMemory text = text ≡ last_line NoMemory
+RefusesAt c p _ text = ⊥
+
+abbrev pub Refuses : BundleEnd → Status → List ℕ → Type 0
+Refuses (end.Refused code place) status text = RefusesAt code place status text
+Refuses end.NoMemory NoMemory text = text ≡ last_line NoMemory
+Refuses end.NoMemory _ text = ⊥
+
+-- what a JSON value leads to
+abbrev pub FollowsFrom : Command → Data → Status → List Event → List ℕ → Type 0
+FollowsFrom command d Done log text = (b : Bundle) × (bundle_for command d ≡ Ok b) × IsDone command b log × (text ≡ done_text command b)
+FollowsFrom command d (BundleRefused code place) log text = (log ≡ []) × (bundle_for command d ≡ Err (record { code = code; place = place })) × (text ≡ last_line (BundleRefused code place))
+FollowsFrom command d (DagRefused clause index) log text = (log ≡ []) × (b : Bundle) × (bundle_for command d ≡ Ok b) × IsDagRefused command b clause index × (text ≡ last_line (DagRefused clause index))
+FollowsFrom command d (TransformFault name kind rec) log text = (log ≡ []) × (b : Bundle) × (bundle_for command d ≡ Ok b) × IsFaulty command b name kind rec × (text ≡ last_line (TransformFault name kind rec))
+FollowsFrom command d NoMemory log text = (log ≡ []) × (text ≡ last_line NoMemory)
+FollowsFrom command d _ log text = ⊥
 
 -- what content that was read to its end leads to
 abbrev pub LeadsTo : Command → List ℕ → Status → List Event → List ℕ → Type 0

@@ -1,7 +1,6 @@
-ghost use Rattle.std.specs.Prelude.{◌≡◌, ◌≤◌, [], true};
+ghost use Rattle.std.specs.Prelude.{◌≡◌, ◌≤◌, []};
 ghost use Rattle.std.specs.Cow.{cow_slice_items};
 ghost use Rattle.nemo_ir.specs.Line.{IsLine};
-ghost use Rattle.nemo_job.specs.Chain.{is_built};
 ghost use Rattle.nemo_policy.specs.Passes.{plain_dag};
 ghost use Rattle.nemo_top.specs.Outcome.{Accepts, Checks, IsRefusedDag, IsSized, Runs};
 ghost use Rattle.nemo_top.specs.declared.word.Command.{Command};
@@ -11,7 +10,6 @@ use crate::status::Status;
 use nemo_base::Policy;
 use nemo_bundle::Bundle;
 use nemo_check::{CheckEnd, check};
-use nemo_flat::flatten;
 use nemo_ir::{FlatJob, IrDag};
 use nemo_policy::apply_policy;
 use nemo_value::NoMemory;
@@ -21,15 +19,12 @@ use std::alloc::Global;
 pub(crate) fn check_bundle(alloc: Global, bundle: &Bundle) -> Reached
     requires some { 1 ≤ bundle.now.parallelism }
     requires few { bundle.now.parallelism ≤ 64 }
-    requires chain { is_built bundle.now.job ≡ true }
+    requires line { IsLine bundle.now.flat }
     ensures { Runs Command.Check bundle.now result.status result.log (cow_slice_items result.text) }
 {
-    let Ok(flat) = flatten(alloc, &bundle.job) else {
-        return with_line(alloc, Status::NoMemory);
-    };
     match &bundle.dag {
-        Some(dag) => check_given(alloc, &flat, dag),
-        None => accept_plain(alloc, &flat, bundle.parallelism),
+        Some(dag) => check_given(alloc, &bundle.flat, dag),
+        None => accept_plain(alloc, &bundle.flat, bundle.parallelism),
     }
 }
 

@@ -6,6 +6,7 @@ mod lines;
 mod plain;
 mod reach;
 mod running;
+mod serving;
 mod status;
 mod word;
 

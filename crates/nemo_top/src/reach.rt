@@ -1,23 +1,21 @@
-ghost use Rattle.std.specs.Prelude.{◌≡◌, ◌≤◌, [], true, IfOk, IfErr, IfSome, Ok};
-ghost use Rattle.std.specs.List.{list_all};
+ghost use Rattle.std.specs.Prelude.{◌≡◌, [], IfOk, IfErr, Ok};
 ghost use Rattle.std.specs.Cow.{cow_slice_items};
 ghost use Rattle.serde_json.specs.View.{view};
 ghost use Rattle.serde_json.specs.Data.{Data};
-ghost use Rattle.nemo_bundle.specs.Answers.{Gives};
-ghost use Rattle.nemo_ir.specs.Uniform.{is_uniform};
-ghost use Rattle.nemo_job.specs.Chain.{has_fields, is_built};
-ghost use Rattle.nemo_top.specs.Outcome.{Answers, bundle_for, call_of, IsJson, IsServed, LeadsTo, Refuses, Runs};
-ghost use Rattle.nemo_top.specs.Outcome as spec;
+ghost use Rattle.nemo_bundle.specs.Answers.{Gives, on_ok};
+ghost use Rattle.nemo_bundle.specs.Read.{bundle_of};
+ghost use Rattle.nemo_top.specs.Outcome.{Answers, Evaluates, FollowsFrom, call_of, IsJson, LeadsTo, Refuses, RefusesAt};
 ghost use Rattle.nemo_top.specs.declared.word.Command.{Command};
 
 use crate::accepting::check_bundle;
 use crate::lines::{Reached, numbered_line, with_line, with_text};
 use crate::running::run_bundle;
+use crate::serving::read_served;
 use crate::status::Status;
 use crate::word::{Command, Word, command_of};
-use nemo_bundle::{Bundle, BundleEnd, UNSERVED, read_bundle};
+use nemo_bundle::{BundleEnd, read_job};
 use nemo_io::{ReadRefused, Source, read_to_end};
-use nemo_job::{JobEnd, eval_job, is_chain};
+use nemo_job::{Job, JobEnd, eval_job};
 use nemo_report::{fault_text, sink_text};
 use nemo_value::{List, NoMemory};
 use serde_json::Value;
@@ -39,16 +37,12 @@ pub fn reach<S: Source>(alloc: Global, words: &[Word], source: &mut S) -> Reache
     }
 }
 
-/// What the bytes lead to. They are dropped once they are read, and so is the JSON value.
+/// What the bytes lead to. They are dropped once they are read.
 fn evaluate(alloc: Global, command: Command, bytes: Vec<u8>) -> Reached
     ensures { LeadsTo command bytes.items result.status result.log (cow_slice_items result.text) }
 {
     match parse(alloc, bytes) {
-        Ok(value) => match read(alloc, command, value) {
-            Ok(bundle) => run(alloc, command, &bundle),
-            Err(BundleEnd::Refused { code, place }) => refuse(alloc, code, place),
-            Err(BundleEnd::NoMemory) => with_line(alloc, Status::NoMemory),
-        },
+        Ok(value) => answer(alloc, command, value),
         Err(ParseEnd::NotJson) => with_line(alloc, Status::NotJson),
         Err(ParseEnd::NoMemory) => with_line(alloc, Status::NoMemory),
     }
@@ -75,63 +69,66 @@ fn parse(alloc: Global, bytes: Vec<u8>) -> Result<Value, ParseEnd>
     }
 }
 
-/// The bundle that a command reads, of which `check` and `solo` serve chains alone for now.
-fn read(alloc: Global, command: Command, value: Value) -> Result<Bundle, BundleEnd>
-    ensures bundle { Gives result (bundle_for command (view value)) }
-    ensures tasks { IfOk result (λ b. (1 ≤ b.parallelism) × (b.parallelism ≤ 64)) }
-    ensures chain { IfOk result (IsServed command) }
-    ensures uniform { IfOk result (λ b. IfSome b.dag (λ dag. is_uniform dag ≡ true)) }
-{
-    let bundle = read_bundle(alloc, &value)?;
-    match command {
-        Command::Eval => Ok(bundle),
-        Command::Check | Command::Solo => chained(alloc, bundle),
-    }
-}
-
-/// The bundle, where its job is a chain.
-fn chained(alloc: Global, bundle: Bundle) -> Result<Bundle, BundleEnd>
-    requires { list_all has_fields bundle.job ≡ true }
-    ensures bundle { Gives result (spec.chained (Ok bundle)) }
-    ensures same { IfOk result (λ b. b ≡ bundle) }
-    ensures chain { IfOk result (λ b. is_built b.job ≡ true) }
-{
-    if is_chain(alloc, bundle.job.vertices().as_slice())? {
-        Ok(bundle)
-    } else {
-        Err(UNSERVED)
-    }
-}
-
-/// What a bundle leads to.
-fn run(alloc: Global, command: Command, bundle: &Bundle) -> Reached
-    requires some { 1 ≤ bundle.now.parallelism }
-    requires few { bundle.now.parallelism ≤ 64 }
-    requires chain { IsServed command bundle.now }
-    requires uniform { IfSome bundle.now.dag (λ dag. is_uniform dag ≡ true) }
-    ensures { Runs command bundle.now result.status result.log (cow_slice_items result.text) }
+/// What a JSON value leads to. It is dropped once it is read.
+fn answer(alloc: Global, command: Command, value: Value) -> Reached
+    ensures { FollowsFrom command (view value) result.status result.log (cow_slice_items result.text) }
 {
     match command {
-        Command::Eval => eval(alloc, bundle),
-        Command::Check => check_bundle(alloc, bundle),
-        Command::Solo => run_bundle(alloc, bundle),
+        Command::Eval => answer_eval(alloc, value),
+        Command::Check => answer_check(alloc, value),
+        Command::Solo => answer_solo(alloc, value),
     }
 }
 
-fn eval(alloc: Global, bundle: &Bundle) -> Reached
-    ensures { Runs Command.Eval bundle.now result.status result.log (cow_slice_items result.text) }
+fn answer_eval(alloc: Global, value: Value) -> Reached
+    ensures { FollowsFrom Command.Eval (view value) result.status result.log (cow_slice_items result.text) }
 {
-    match eval_bundle(alloc, bundle) {
+    match job_of(alloc, value) {
+        Ok(job) => eval(alloc, &job),
+        Err(end) => refuse(alloc, end),
+    }
+}
+
+/// The job of the bundle that a value stands for, which is dropped then.
+fn job_of(alloc: Global, value: Value) -> Result<Job, BundleEnd>
+    ensures { Gives result (on_ok (bundle_of (view value)) (λ b. Ok b.job)) }
+{
+    read_job(alloc, &value)
+}
+
+fn answer_check(alloc: Global, value: Value) -> Reached
+    ensures { FollowsFrom Command.Check (view value) result.status result.log (cow_slice_items result.text) }
+{
+    match read_served(alloc, value) {
+        Ok(bundle) => check_bundle(alloc, &bundle),
+        Err(end) => refuse(alloc, end),
+    }
+}
+
+fn answer_solo(alloc: Global, value: Value) -> Reached
+    ensures { FollowsFrom Command.Solo (view value) result.status result.log (cow_slice_items result.text) }
+{
+    match read_served(alloc, value) {
+        Ok(bundle) => run_bundle(alloc, bundle),
+        Err(end) => refuse(alloc, end),
+    }
+}
+
+/// What a job leads to that is evaluated.
+fn eval(alloc: Global, job: &Job) -> Reached
+    ensures { Evaluates job.now result.status result.log (cow_slice_items result.text) }
+{
+    match eval_text(alloc, job) {
         Ok(reached) => reached,
         Err(NoMemory) => with_line(alloc, Status::NoMemory),
     }
 }
 
-/// The sinks of a bundle's job and the last line, or the first fault that reaches a sink.
-fn eval_bundle(alloc: Global, bundle: &Bundle) -> Result<Reached, NoMemory>
-    ensures { IfOk result (λ reached. Runs Command.Eval bundle.now reached.status reached.log (cow_slice_items reached.text)) }
+/// The sinks of a job and the last line, or the first fault that reaches a sink.
+fn eval_text(alloc: Global, job: &Job) -> Result<Reached, NoMemory>
+    ensures { IfOk result (λ reached. Evaluates job.now reached.status reached.log (cow_slice_items reached.text)) }
 {
-    match eval_job(alloc, &bundle.job) {
+    match eval_job(alloc, job) {
         Ok(sinks) => {
             let mut text = sink_text(alloc, &List::from_vec(sinks))?;
             text.extend_from_slice(b"done\n")?;
@@ -146,9 +143,19 @@ fn eval_bundle(alloc: Global, bundle: &Bundle) -> Result<Reached, NoMemory>
     }
 }
 
-/// The refusal of a bundle.
-fn refuse(alloc: Global, code: u32, place: u64) -> Reached
-    ensures answer { Refuses code place result.status (cow_slice_items result.text) }
+/// What it leads to that a value gives no bundle.
+fn refuse(alloc: Global, end: BundleEnd) -> Reached
+    ensures answer { Refuses end result.status (cow_slice_items result.text) }
+    ensures log { result.log ≡ [] }
+{
+    match end {
+        BundleEnd::Refused { code, place } => refuse_at(alloc, code, place),
+        BundleEnd::NoMemory => with_line(alloc, Status::NoMemory),
+    }
+}
+
+fn refuse_at(alloc: Global, code: u32, place: u64) -> Reached
+    ensures answer { RefusesAt code place result.status (cow_slice_items result.text) }
     ensures log { result.log ≡ [] }
 {
     match numbered_line(alloc, b"bundle refused ", u64::from(code), place) {

@@ -1,6 +1,6 @@
 ghost use Rattle.std.specs.Prelude.{◌≡◌, ◌≤◌, true, IfOk, IfSome};
 ghost use Rattle.std.specs.Cow.{cow_slice_items};
-ghost use Rattle.nemo_flat.specs.Flat.{IsChainForm};
+ghost use Rattle.nemo_flat.specs.Flat.{IsChainForm, flat_of};
 ghost use Rattle.nemo_ir.specs.Line.{IsLine};
 ghost use Rattle.nemo_ir.specs.Uniform.{is_uniform};
 ghost use Rattle.nemo_ir.specs.Valid.{Valid};
@@ -15,13 +15,12 @@ use crate::status::Status;
 use nemo_base::{Policy, Settings};
 use nemo_bundle::Bundle;
 use nemo_check::{CheckEnd, check};
-use nemo_flat::flatten;
 use nemo_ir::{FlatJob, IrDag};
 use nemo_plan::Plan;
 use nemo_policy::apply_policy;
 use nemo_replay::solo;
 use nemo_report::sink_text;
-use nemo_value::{List, NoMemory, TryCopy};
+use nemo_value::{List, NoMemory};
 use std::alloc::Global;
 use std::borrow::CowSlice;
 
@@ -40,33 +39,34 @@ fn standard() -> Settings
 }
 
 /// What the run of a bundle leads to: of the DAG that it proposes, or of what the plain policy makes of its job.
-pub(crate) fn run_bundle(alloc: Global, bundle: &Bundle) -> Reached
-    requires some { 1 ≤ bundle.now.parallelism }
-    requires few { bundle.now.parallelism ≤ 64 }
-    requires chain { is_built bundle.now.job ≡ true }
-    requires uniform { IfSome bundle.now.dag (λ dag. is_uniform dag ≡ true) }
-    ensures { spec.Runs Command.Solo bundle.now result.status result.log (cow_slice_items result.text) }
+pub(crate) fn run_bundle(alloc: Global, bundle: Bundle) -> Reached
+    requires some { 1 ≤ bundle.parallelism }
+    requires few { bundle.parallelism ≤ 64 }
+    requires chain { is_built bundle.job ≡ true }
+    requires flat { bundle.flat ≡ flat_of bundle.job }
+    requires uniform { IfSome bundle.dag (λ dag. is_uniform dag ≡ true) }
+    ensures { spec.Runs Command.Solo bundle result.status result.log (cow_slice_items result.text) }
 {
-    let Ok(flat) = flatten(alloc, &bundle.job) else {
-        return with_line(alloc, Status::NoMemory);
-    };
-    match &bundle.dag {
+    let Bundle {
+        flat,
+        dag,
+        parallelism,
+        ..
+    } = bundle;
+    match dag {
         Some(dag) => run_proposed(alloc, flat, dag),
-        None => run_plain(alloc, flat, bundle.parallelism),
+        None => run_plain(alloc, flat, parallelism),
     }
 }
 
-fn run_proposed(alloc: Global, flat: FlatJob, dag: &IrDag) -> Reached
+fn run_proposed(alloc: Global, flat: FlatJob, dag: IrDag) -> Reached
     requires chain { IsChainForm flat }
     requires line { IsLine flat }
-    requires uniform { is_uniform dag.now ≡ true }
-    ensures { spec.RunsProposed flat dag.now result.status result.log (cow_slice_items result.text) }
+    requires uniform { is_uniform dag ≡ true }
+    ensures { spec.RunsProposed flat dag result.status result.log (cow_slice_items result.text) }
 {
-    match check(alloc, &flat, dag) {
-        Ok(()) => match dag.copy(alloc) {
-            Ok(own) => run_dag(alloc, flat, own),
-            Err(NoMemory) => with_line(alloc, Status::NoMemory),
-        },
+    match check(alloc, &flat, &dag) {
+        Ok(()) => run_dag(alloc, flat, dag),
         Err(CheckEnd::Refused { clause, index }) => refuse_dag(alloc, clause, index),
         Err(CheckEnd::NoMemory) => with_line(alloc, Status::NoMemory),
     }

@@ -1,4 +1,4 @@
-use Rattle.std.proofs.Common.{rules, arith, refl, ◌-◌}
+use Rattle.std.proofs.Common.{rules, arith, ◌-◌}
 use Rattle.serde_json.specs.View.{view}
 use Rattle.nemo_bundle.proofs.Depths.{none_within, level_within}
 use Rattle.nemo_bundle.proofs.Lengths.{form_of_fewer, form_of_more}
@@ -6,7 +6,7 @@ use Rattle.nemo_bundle.proofs.parts.+expr.Goals as goal
 use Rattle.nemo_bundle.proofs.parts.+expr.Goals.{read_form-in_default-via-then-items-lt2, read_form-in_default-via-else-items-lt2+else-items-lt3+else-items-lt4+else-items-lt5}
 
 pub read_expr-returns-then-depth-eq0 : goal.read_expr-returns-then-depth-eq0
-read_expr-returns-then-depth-eq0 t c = (none_within c.args.depth (view c.args.value.now) c.if-depth-eq0.true, refl, refl)
+read_expr-returns-then-depth-eq0 t c = none_within c.args.depth (view c.args.value.now) c.if-depth-eq0.true
 
 pub read_expr-returns-in_err-ok_or : goal.read_expr-returns-in_err-ok_or
 read_expr-returns-in_err-ok_or t c =

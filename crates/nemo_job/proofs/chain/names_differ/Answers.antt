@@ -1,4 +1,4 @@
-use Rattle.std.proofs.Common.{◌≡◌, ◌∙◌, ap, sym, subst, ℕ, ◌<◌, List, [], true, false, not, length, get_or, Bool, cond}
+use Rattle.std.proofs.Common.{◌≡◌, ◌∙◌, ap, sym, subst, ℕ, ◌<◌, List, [], true, false, not, length, get_or, cond}
 use Rattle.std.proofs.lemmas.List.{get_or-map, length-map}
 use Rattle.std.specs.Cmp.Lexicographic.{slice_cmp}
 use Rattle.std.specs.List.{list_any}
@@ -6,12 +6,8 @@ use Rattle.std.specs.Ordering.{nat_cmp, is_eq}
 use Rattle.nemo_value.specs.Texts.{same_text, all_new}
 use Rattle.nemo_job.specs.Chain.{names_of}
 use Rattle.nemo_job.specs.declared.vertex.JobVertex.{JobVertex}
-use Rattle.nemo_job.proofs.NewNames.{seen_at, not_new, new_more, has_more}
+use Rattle.nemo_job.proofs.NewNames.{negated, seen_at, not_new, new_more, has_more}
 use Rattle.nemo_job.proofs.chain.names_differ.Goals as goal
-
-negated : (b r : Bool) → r ≡ not b → b ≡ not r
-negated true r e = ap not (sym e)
-negated false r e = ap not (sym e)
 
 -- the name at a place
 named : (vs : List JobVertex) (i : ℕ) (v : JobVertex) (text : List ℕ) → i < length vs → v ≡ get_or vs i v → text ≡ v.name → text ≡ get_or (names_of vs) i []

@@ -1,0 +1,203 @@
+ghost use Rattle.std.specs.Prelude.{◌≡◌, ◌≤◌, ◌+◌, IfOk, option_map};
+ghost use Rattle.serde_json.specs.View.{view};
+ghost use Rattle.nemo_bundle.specs.Answers.{Reads, Walks};
+ghost use Rattle.nemo_bundle.specs.Choices as spec;
+
+use crate::dags::read_ranged;
+use crate::end::{PartEnd, WalkEnd};
+use crate::read::{FromJson, read_member};
+use nemo_base::{Policy, Settings};
+use serde_json::Value;
+use std::alloc::Global;
+
+/// The slots of a run: those from 0 are reserved, the following ones transient.
+#[derive(Clone, Copy, Debug, PartialEq, Eq)]
+pub(crate) struct Cluster {
+    pub(crate) reserved: u32,
+    pub(crate) transient: u32,
+}
+
+/// What a bundle says of its run.
+#[derive(Clone, Copy, Debug, PartialEq, Eq)]
+pub(crate) struct Choices {
+    pub(crate) parallelism: u32,
+    pub(crate) policy: Policy,
+    pub(crate) settings: Settings,
+}
+
+/// The most slots of a cluster.
+const MAX_SLOTS: u64 = 64;
+
+/// The numbers that a member may be, and the one that stands for it where it is absent.
+#[derive(Clone, Copy)]
+struct Range {
+    least: u32,
+    usual: u32,
+    most: u32,
+}
+
+const TASKS: Range = Range {
+    least: 1,
+    usual: 4,
+    most: 64,
+};
+
+const LOSS_BOUND: Range = Range {
+    least: 1,
+    usual: 8,
+    most: 1000,
+};
+
+const PIECE: Range = Range {
+    least: 1,
+    usual: 65536,
+    most: 1_048_576,
+};
+
+const SAMPLE: Range = Range {
+    least: 1,
+    usual: 8,
+    most: 1000,
+};
+
+const DECODED: Range = Range {
+    least: 0,
+    usual: 16_777_216,
+    most: 1_073_741_824,
+};
+
+/// What the members of a bundle say of its run, or the place of the first that has not its form: 0 the cluster, 1 the
+/// parallelism, 2 the policy, 3 to 6 the settings.
+pub(crate) fn read_choices(alloc: Global, value: &Value) -> Result<Choices, WalkEnd>
+    ensures choices { Walks (λ c. c) result (spec.choices_of (view value.now)) }
+    ensures range { IfOk result (λ c. (1 ≤ c.parallelism) × (c.parallelism ≤ 64) × spec.AreInRange c.settings) }
+{
+    let cluster = read_cluster(alloc, value.get("cluster")).map_err(|e| e.at(0))?;
+    let parallelism = read_number(alloc, value.get("parallelism"), TASKS).map_err(|e| e.at(1))?;
+    let policy = read_policy(value.get("policy")).map_err(|e| e.at(2))?;
+    let settings = read_settings(alloc, cluster, value.get("settings"))?;
+    Ok(Choices {
+        parallelism,
+        policy,
+        settings,
+    })
+}
+
+/// The cluster of a member, or one reserved slot where it is absent.
+fn read_cluster(alloc: Global, member: Option<&Value>) -> Result<Cluster, PartEnd>
+    ensures cluster { Reads result (spec.cluster_in (option_map (λ v. view v.now) member.entry)) }
+    ensures range { IfOk result (λ c. (1 ≤ c.reserved) × (c.reserved + c.transient ≤ 64)) }
+{
+    let Some(value) = member else {
+        return Ok(Cluster {
+            reserved: 1,
+            transient: 0,
+        });
+    };
+    let reserved: u32 = read_member(alloc, value, "reserved")?;
+    let transient: u32 = read_member(alloc, value, "transient")?;
+    if 1 <= reserved && u64::from(reserved) + u64::from(transient) <= MAX_SLOTS {
+        Ok(Cluster {
+            reserved,
+            transient,
+        })
+    } else {
+        Err(PartEnd::Malformed)
+    }
+}
+
+/// The number of a member that may be absent.
+fn read_number(alloc: Global, member: Option<&Value>, range: Range) -> Result<u32, PartEnd>
+    requires usual { (range.least ≤ range.usual) × (range.usual ≤ range.most) }
+    ensures number { Reads result (spec.number_in range.least range.most range.usual (option_map (λ v. view v.now) member.entry)) }
+    ensures range { IfOk result (λ n. (range.least ≤ n) × (n ≤ range.most)) }
+{
+    match member {
+        Some(value) => read_ranged(alloc, value, range.least, range.most),
+        None => Ok(range.usual),
+    }
+}
+
+/// The policy of a member, or the plain one where it is absent.
+fn read_policy(member: Option<&Value>) -> Result<Policy, PartEnd>
+    ensures { Reads result (spec.policy_in (option_map (λ v. view v.now) member.entry)) }
+{
+    match member {
+        Some(value) => value.as_str().and_then(policy_of).ok_or(PartEnd::Malformed),
+        None => Ok(Policy::Plain),
+    }
+}
+
+fn policy_of(word: &str) -> Option<Policy>
+    ensures { result ≡ spec.policy_of word.now }
+{
+    match word {
+        "plain" => Some(Policy::Plain),
+        "pado" => Some(Policy::Pado),
+        "skew" => Some(Policy::Skew),
+        "pado_skew" => Some(Policy::PadoSkew),
+        _ => None,
+    }
+}
+
+/// The settings of a member that may be absent, with the slots of a cluster.
+fn read_settings(
+    alloc: Global,
+    cluster: Cluster,
+    member: Option<&Value>,
+) -> Result<Settings, WalkEnd>
+    requires reserved { 1 ≤ cluster.reserved }
+    requires slots { cluster.reserved + cluster.transient ≤ 64 }
+    ensures settings { Walks (λ s. s) result (spec.settings_of cluster (option_map (λ v. view v.now) member.entry)) }
+    ensures range { IfOk result (λ s. spec.AreInRange s) }
+{
+    let loss_bound = read_loss_bound(alloc, member).map_err(|e| e.at(3))?;
+    let piece = read_setting(alloc, member, "piece", PIECE).map_err(|e| e.at(4))?;
+    let sample = read_setting(alloc, member, "sample", SAMPLE).map_err(|e| e.at(5))?;
+    let decoded = read_setting(alloc, member, "decoded", DECODED).map_err(|e| e.at(6))?;
+    Ok(Settings {
+        reserved: cluster.reserved,
+        transient: cluster.transient,
+        loss_bound,
+        piece,
+        sample,
+        decoded: u64::from(decoded),
+    })
+}
+
+/// The first of the settings, which is refused too where they are no object.
+fn read_loss_bound(alloc: Global, settings: Option<&Value>) -> Result<u32, PartEnd>
+    ensures number { Reads result (spec.loss_bound_in (option_map (λ v. view v.now) settings.entry)) }
+    ensures range { IfOk result (λ n. (1 ≤ n) × (n ≤ 1000)) }
+{
+    if is_record(settings) {
+        read_setting(alloc, settings, "loss_bound", LOSS_BOUND)
+    } else {
+        Err(PartEnd::Malformed)
+    }
+}
+
+fn is_record(member: Option<&Value>) -> bool
+    ensures { result ≡ spec.is_record (option_map (λ v. view v.now) member.entry) }
+{
+    match member {
+        Some(value) => value.as_object().is_some(),
+        None => true,
+    }
+}
+
+fn read_setting(
+    alloc: Global,
+    settings: Option<&Value>,
+    name: &str,
+    range: Range,
+) -> Result<u32, PartEnd>
+    requires usual { (range.least ≤ range.usual) × (range.usual ≤ range.most) }
+    ensures number { Reads result (spec.number_in range.least range.most range.usual (spec.setting name.now (option_map (λ v. view v.now) settings.entry))) }
+    ensures range { IfOk result (λ n. (range.least ≤ n) × (n ≤ range.most)) }
+{
+    match settings {
+        Some(value) => read_number(alloc, value.get(name), range),
+        None => Ok(range.usual),
+    }
+}

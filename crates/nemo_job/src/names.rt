@@ -1,0 +1,78 @@
+ghost use Rattle.std.specs.Prelude.{◌≡◌, List as Sequence, [], ◌∷◌, ◌++◌, map, IfOk, OnOk};
+ghost use Rattle.nemo_job.specs.NamesBound.{HasNames};
+ghost use Rattle.nemo_job.specs.Unrolled as spec;
+ghost use Rattle.nemo_job.specs.Unrolled.{Bound, source_of};
+
+use crate::vertex::Ref;
+use nemo_value::{List, Name, NoMemory};
+use std::alloc::Global;
+use std::collections::BTreeMap;
+
+/// The names that stand in a list so far, each with the copies that its ports stand for. Of two of a name the first stays.
+#[derive(Drop)]
+pub(crate) struct Names<'a> {
+    ports: BTreeMap<&'a str, List<Option<usize>>>,
+}
+
+impl<'a> Names<'a> {
+    pub(crate) fn new(alloc: Global) -> Names<'a>
+        ensures { HasNames [] result }
+    {
+        Names {
+            ports: BTreeMap::new(alloc),
+        }
+    }
+
+    /// The ports of a turn under their names.
+    pub(crate) fn bound(
+        alloc: Global,
+        ports: &[Option<usize>],
+        carry: &'a [Name],
+    ) -> Result<Names<'a>, NoMemory>
+        ensures { IfOk result (HasNames (spec.bound ports.now carry.now)) }
+    {
+        let mut names = Names::new(alloc);
+        for (port, name) in ports.iter().zip(carry) {
+            let mut own = List::with_capacity(alloc, 1)?;
+            own.push(*port)?;
+            names.bind(name.as_str(), own)?;
+        }
+        Ok(names)
+    }
+
+    /// One name more.
+    pub(crate) fn bind(&mut self, name: &'a str, ports: List<Option<usize>>) -> Result<(), NoMemory>
+        ensures { OnOk result ((bs : Sequence Bound) → HasNames bs self.old → HasNames (bs ++ record { name = name.now; ports = ports } ∷ []) self.new) }
+    {
+        if !self.ports.contains_key(&name) {
+            self.ports.insert(name, ports)?;
+        }
+        Ok(())
+    }
+
+    /// The copies that some references name.
+    pub(crate) fn sources(
+        &self,
+        alloc: Global,
+        refs: &'a [Ref],
+    ) -> Result<List<Option<usize>>, NoMemory>
+        ensures { IfOk result (λ ports. (bs : Sequence Bound) → HasNames bs self.now → ports ≡ map (source_of bs) refs.now) }
+    {
+        let mut ports = List::with_capacity(alloc, refs.len())?;
+        for r in refs {
+            ports.push(self.source(r))?;
+        }
+        Ok(ports)
+    }
+
+    /// The copy that a reference names.
+    fn source(&self, r: &'a Ref) -> Option<usize>
+        ensures { (bs : Sequence Bound) → HasNames bs self.now → result ≡ source_of bs r.now }
+    {
+        let name = r.name.as_str();
+        match self.ports.get(&name) {
+            Some(ports) => ports.get(r.port as usize).copied().flatten(),
+            None => None,
+        }
+    }
+}

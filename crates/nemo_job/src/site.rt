@@ -1,0 +1,148 @@
+ghost use Rattle.std.specs.Prelude.{◌≡◌, [], true, map, IfOk};
+ghost use Rattle.std.specs.List.{list_all, list_any};
+ghost use Rattle.nemo_transform.specs.Soundness as soundness;
+ghost use Rattle.nemo_value.specs.Names.{is_name};
+ghost use Rattle.nemo_value.specs.Texts.{all_new};
+ghost use Rattle.nemo_job.specs.Refusals as refusals;
+ghost use Rattle.nemo_job.specs.Sites.{faces, standing, working};
+ghost use Rattle.nemo_job.specs.Walks.{is_known_in, outer, with_inner};
+
+use crate::scope::{Named, are_known, is_any_from, is_taken};
+use crate::vertex::{JobVertex, Ref, Work};
+use nemo_transform::{Transform, ports};
+use nemo_value::{Name, NoMemory};
+use std::alloc::Global;
+use std::collections::{BTreeMap, BTreeSet};
+
+/// The most turns of a loop.
+const MAX_TURNS: u32 = 64;
+
+/// The most ports of a loop or a union.
+const MAX_PORTS: usize = 16;
+
+/// The most loops around a loop.
+pub(crate) const MAX_AROUND: u32 = 2;
+
+/// Which codes fail at a vertex.
+#[derive(Clone, Copy)]
+pub(crate) struct Fails {
+    pub(crate) double: bool,
+    pub(crate) unknown: bool,
+    pub(crate) forward: bool,
+    pub(crate) misfed: bool,
+    pub(crate) bad_loop: bool,
+}
+
+/// What fails at a vertex at a place of its list.
+pub(crate) fn outer_fails<'a>(
+    scope: &BTreeMap<&'a str, Named>,
+    position: usize,
+    depth: u32,
+    v: &'a JobVertex,
+) -> Fails
+    ensures fails { result ≡ outer scope.now position depth v.now }
+    ensures name { is_name v.now.name ≡ true }
+{
+    let inputs = v.inputs.as_slice();
+    Fails {
+        double: is_taken(scope, &v.name, position),
+        unknown: !are_known(scope, inputs),
+        forward: is_any_from(scope, position, inputs),
+        misfed: !has_ports(inputs.len(), &v.work),
+        bad_loop: !is_good(depth, &v.work),
+    }
+}
+
+/// What fails at a loop, also by the list of its body.
+pub(crate) fn loop_fails<'a>(
+    alloc: Global,
+    scope: &BTreeMap<&'a str, Named>,
+    carry: &'a [Name],
+    next: &'a [Ref],
+    outer: Fails,
+) -> Result<Fails, NoMemory>
+    ensures { IfOk result (λ f. f ≡ with_inner (all_new [] carry.now) (list_all (is_known_in scope.now) next.now) outer) }
+{
+    let differ = names_differ(alloc, carry)?;
+    Ok(Fails {
+        double: outer.double || !differ,
+        unknown: outer.unknown || !are_known(scope, next),
+        forward: outer.forward,
+        misfed: outer.misfed,
+        bad_loop: outer.bad_loop,
+    })
+}
+
+/// Whether no name comes twice.
+fn names_differ(alloc: Global, names: &[Name]) -> Result<bool, NoMemory>
+    ensures { IfOk result (λ differ. differ ≡ all_new [] names.now) }
+{
+    let mut seen: BTreeSet<&str> = BTreeSet::new(alloc);
+    for name in names {
+        if !seen.insert(name.as_str())? {
+            return Ok(false);
+        }
+    }
+    Ok(true)
+}
+
+fn is_few(count: usize) -> bool
+    ensures { result ≡ soundness.is_few count }
+{
+    1 <= count && count <= MAX_PORTS
+}
+
+fn has_ports(inputs: usize, work: &Work) -> bool
+    ensures { result ≡ refusals.has_ports inputs (working work.now).doing }
+{
+    match work {
+        Work::Op(Transform::Union { .. }) => is_few(inputs),
+        Work::Op(transform) => {
+            let ports = ports(transform);
+            inputs as u64 == u64::from(ports.main) + u64::from(ports.keyed) + u64::from(ports.side)
+        }
+        Work::Loop { carry, .. } => inputs == carry.len(),
+    }
+}
+
+fn is_good(depth: u32, work: &Work) -> bool
+    ensures { result ≡ refusals.is_good depth (working work.now).doing }
+{
+    match work {
+        Work::Op(_) => true,
+        Work::Loop {
+            turns,
+            carry,
+            body,
+            next,
+        } => {
+            1 <= *turns
+                && *turns <= MAX_TURNS
+                && is_few(carry.len())
+                && next.len() == carry.len()
+                && depth <= MAX_AROUND
+                && !has_end(body.as_slice())
+        }
+    }
+}
+
+/// Whether one is a source or a sink.
+fn has_end(body: &[JobVertex]) -> bool
+    ensures { result ≡ list_any (λ f. refusals.is_end f.transform) (faces (map standing body.now)) }
+{
+    for v in body {
+        if is_end(v) {
+            return true;
+        }
+    }
+    false
+}
+
+fn is_end(v: &JobVertex) -> bool
+    ensures { result ≡ refusals.is_end (standing v.now).face.transform }
+{
+    matches!(
+        v.work,
+        Work::Op(Transform::Source { .. } | Transform::Sink { .. })
+    )
+}

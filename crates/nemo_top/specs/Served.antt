@@ -1,0 +1,41 @@
+-- What `check` and `solo` serve for now: chains, whose DAG may be proposed as Ops of one task each.
+use Rattle.std.specs.Prelude.{ℕ, ◌&&◌, nat_le, Bool, true, if◌then◌else◌, List, [], ◌∷◌, Option, Some, None, is_none, Result, Ok, Err, codes}
+use Rattle.std.specs.List.{list_all}
+use Rattle.serde_json.specs.Data.{Data}
+use Rattle.serde_json.specs.Find.{get}
+use Rattle.nemo_bundle.specs.Answers.{Refusal}
+use Rattle.nemo_bundle.specs.declared.bundle.Bundle.{Bundle}
+use Rattle.nemo_ir.specs.Uniform.{is_uniform_edge, is_uniform_op}
+use Rattle.nemo_ir.specs.declared.dag.IrDag.{IrDag}
+use Rattle.nemo_job.specs.Chain.{is_chain}
+
+-- the refusal of what isn't served
+abbrev pub unserved : Refusal
+unserved = record { code = 90; place = 0 }
+
+-- codes 1 and 2 stay, and what is refused by another isn't served
+abbrev pub narrowed : Refusal → Refusal
+narrowed r = if nat_le r.code 2 then r else unserved
+
+-- the members that a bundle may not have
+abbrev pub unserved_members : List (List ℕ)
+unserved_members = codes "cluster" ∷ codes "policy" ∷ codes "settings" ∷ codes "script" ∷ codes "schedule" ∷ []
+
+abbrev pub has_none_of : List (List ℕ) → Data → Bool
+has_none_of names d = list_all (λ name. is_none (get name d)) names
+
+-- Ops of one task on transient machines, each fed task by task by blocks that are fetched and kept
+abbrev pub is_single : IrDag → Bool
+is_single dag = list_all (is_uniform_op 1) dag.vertices && list_all is_uniform_edge dag.edges
+
+abbrev pub is_single_if_any : Option IrDag → Bool
+is_single_if_any (Some dag) = is_single dag
+is_single_if_any None = true
+
+abbrev pub is_served : Data → Bundle → Bool
+is_served d b = has_none_of unserved_members d && is_chain b.job && is_single_if_any b.dag
+
+-- the bundle, where it is served
+abbrev pub served : Data → Result Bundle Refusal → Result Bundle Refusal
+served d (Ok b) = if is_served d b then Ok b else Err unserved
+served d (Err r) = Err (narrowed r)

@@ -1,0 +1,105 @@
+ghost use Rattle.std.specs.Prelude.{◌≡◌, ◌≤◌, true, is_none, IfOk, IfSome};
+ghost use Rattle.std.specs.List.{list_all};
+ghost use Rattle.serde_json.specs.Find.{get};
+ghost use Rattle.serde_json.specs.View.{view};
+ghost use Rattle.nemo_bundle.specs.Answers.{Gives};
+ghost use Rattle.nemo_bundle.specs.Read.{bundle_of};
+ghost use Rattle.nemo_flat.specs.Flat.{flat_of};
+ghost use Rattle.nemo_ir.specs.Uniform as uniform;
+ghost use Rattle.nemo_ir.specs.Uniform.{is_uniform};
+ghost use Rattle.nemo_job.specs.Chain.{is_built};
+ghost use Rattle.nemo_top.specs.Served as spec;
+
+use nemo_base::{Class, Flow, Keep, Pattern};
+use nemo_bundle::{Bundle, BundleEnd, read_bundle};
+use nemo_ir::{IrDag, IrEdge, IrVertex, VertexKind};
+use nemo_job::is_chain;
+use nemo_value::NoMemory;
+use serde_json::Value;
+use std::alloc::Global;
+
+/// The refusal of what `check` and `solo` don't serve yet.
+const UNSERVED: BundleEnd = BundleEnd::Refused { code: 90, place: 0 };
+
+/// The last of the codes that they tell.
+const VERTEX_SHAPE: u32 = 2;
+
+/// The members that their bundles may not have.
+const UNSERVED_MEMBERS: [&str; 5] = ["cluster", "policy", "settings", "script", "schedule"];
+
+/// The bundle that a value stands for, where `check` and `solo` serve it: its job is a chain, and a DAG that it proposes
+/// has Ops of one task. What has another refusal than codes 1 and 2 isn't served.
+pub(crate) fn read_served(alloc: Global, value: Value) -> Result<Bundle, BundleEnd>
+    ensures bundle { Gives result (spec.served (view value) (bundle_of (view value))) }
+    ensures tasks { IfOk result (λ b. (1 ≤ b.parallelism) × (b.parallelism ≤ 64)) }
+    ensures chain { IfOk result (λ b. is_built b.job ≡ true) }
+    ensures flat { IfOk result (λ b. b.flat ≡ flat_of b.job) }
+    ensures uniform { IfOk result (λ b. IfSome b.dag (λ dag. is_uniform dag ≡ true)) }
+{
+    match read_bundle(alloc, &value) {
+        Ok(bundle) => {
+            if is_served(alloc, &value, &bundle)? {
+                Ok(bundle)
+            } else {
+                Err(UNSERVED)
+            }
+        }
+        Err(BundleEnd::Refused { code, .. }) if code > VERTEX_SHAPE => Err(UNSERVED),
+        Err(end) => Err(end),
+    }
+}
+
+fn is_served(alloc: Global, value: &Value, bundle: &Bundle) -> Result<bool, NoMemory>
+    ensures { IfOk result (λ served. served ≡ spec.is_served (view value.now) bundle.now) }
+{
+    if !has_none_of(value, &UNSERVED_MEMBERS) {
+        return Ok(false);
+    }
+    if !is_chain(alloc, bundle.job.vertices().as_slice())? {
+        return Ok(false);
+    }
+    match &bundle.dag {
+        Some(dag) => Ok(is_single(dag)),
+        None => Ok(true),
+    }
+}
+
+/// Whether no member has one of the names.
+fn has_none_of(value: &Value, names: &[&str]) -> bool
+    ensures { result ≡ list_all (λ name. is_none (get name.now (view value.now))) names.now }
+{
+    names.iter().all(|name| value.get(*name).is_none())
+}
+
+/// Whether a DAG has Ops of one task on transient machines, each fed task by task by blocks that are fetched and kept.
+fn is_single(dag: &IrDag) -> bool
+    ensures { result ≡ spec.is_single dag.now }
+{
+    are_single_ops(dag.vertices.as_slice()) && are_uniform_edges(dag.edges.as_slice())
+}
+
+fn are_single_ops(vertices: &[IrVertex]) -> bool
+    ensures { result ≡ list_all (uniform.is_uniform_op 1) vertices.now }
+{
+    vertices.iter().all(is_single_op)
+}
+
+fn are_uniform_edges(edges: &[IrEdge]) -> bool
+    ensures { result ≡ list_all uniform.is_uniform_edge edges.now }
+{
+    edges.iter().all(is_uniform_edge)
+}
+
+fn is_single_op(u: &IrVertex) -> bool
+    ensures { result ≡ uniform.is_uniform_op 1 u.now }
+{
+    matches!(u.kind, VertexKind::Op(_)) && matches!(u.class, Class::Transient) && u.parallelism == 1
+}
+
+fn is_uniform_edge(e: &IrEdge) -> bool
+    ensures { result ≡ uniform.is_uniform_edge e.now }
+{
+    matches!(e.pattern, Pattern::OneToOne)
+        && matches!(e.flow, Flow::Pull)
+        && matches!(e.keep, Keep::Keep)
+}
