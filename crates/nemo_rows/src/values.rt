@@ -1,4 +1,5 @@
 use crate::parts::{bytes_of, number, text};
+use nemo_base::Cuts;
 use nemo_value::{
     Boxed, EvalFault, Expr, Field, List, Name, NoMemory, Oper, Record, Text, bucket_of, eval,
 };
@@ -21,6 +22,7 @@ fn value_of(alloc: Global, row: &Value) -> Result<Vec<u8>, NoMemory> {
         "record" => record_of(alloc, row),
         "bucket" => bucket(alloc, row),
         "eval" => eval_of(alloc, row),
+        "cuts" => cuts_of(alloc, row),
         _ => Ok(Vec::new(alloc)),
     }
 }
@@ -74,6 +76,25 @@ pub(crate) fn field_of(alloc: Global, value: Option<&Value>) -> Result<Field, No
 fn bucket(alloc: Global, row: &Value) -> Result<Vec<u8>, NoMemory> {
     let key = field_of(alloc, row.get("key"))?;
     numbered(alloc, "", u64::from(bucket_of(&key)))
+}
+
+fn cuts_of(alloc: Global, row: &Value) -> Result<Vec<u8>, NoMemory> {
+    match Cuts::new(small_numbers(alloc, row.get("cuts"))?.as_slice()) {
+        Ok(cuts) => numbered(alloc, "cuts ", cuts.as_slice().len() as u64),
+        Err(refused) => numbered(alloc, "place ", refused.place),
+    }
+}
+
+/// The numbers of an array; one beyond 16 bits is their last.
+fn small_numbers(alloc: Global, value: Option<&Value>) -> Result<Vec<u16>, NoMemory> {
+    let mut numbers = Vec::new(alloc);
+    if let Some(items) = value.and_then(Value::as_array) {
+        for item in items {
+            let n = item.as_u64().unwrap_or(0);
+            numbers.push(u16::try_from(n).unwrap_or(u16::MAX))?;
+        }
+    }
+    Ok(numbers)
 }
 
 /// An operand: the place of a field, or a constant.
