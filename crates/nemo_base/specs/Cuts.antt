@@ -1,5 +1,5 @@
 -- Lists of cuts, which deal the buckets 0 to 255 to tasks.
-use Rattle.std.specs.Prelude.{◌≡◌, ◌≤◌, ◌++◌, ◌+◌, ◌&&◌, length, replicate, take, ℕ, ◌*◌, ◌-◌, List, [], ◌∷◌, map, nat_le, nat_lt, Option, Some, None, if◌then◌else◌}
+use Rattle.std.specs.Prelude.{◌≡◌, ◌≤◌, ◌++◌, ◌+◌, ◌&&◌, length, replicate, take, ℕ, suc, ◌*◌, ◌-◌, List, [], ◌∷◌, map, nat_le, nat_lt, Option, Some, None, if◌then◌else◌}
 use Rattle.std.specs.List.{range_with_len}
 use Rattle.std.specs.Int.{div_ceil}
 
@@ -24,3 +24,8 @@ pub record AreCuts (places : List ℕ) (count : ℕ) : Type 0 where
 abbrev pub bad_cut : ℕ → ℕ → List ℕ → Option ℕ
 bad_cut i before [] = None
 bad_cut i before (cut ∷ cuts) = if nat_lt i 63 && nat_le cut 256 && nat_le before cut then bad_cut (i + 1) cut cuts else Some i
+
+-- the task to which cuts deal a bucket: how many of them it has passed
+abbrev pub task_at : List ℕ → ℕ → ℕ
+task_at [] bucket = 0
+task_at (cut ∷ cuts) bucket = if nat_le cut bucket then suc (task_at cuts bucket) else 0

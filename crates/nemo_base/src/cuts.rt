@@ -1,5 +1,5 @@
-ghost use Rattle.std.specs.Prelude.{◌≡◌, ◌≤◌, Some, None, IfErr, IfOk, OnOk};
-ghost use Rattle.nemo_base.specs.Cuts.{bad_cut, even_cuts};
+ghost use Rattle.std.specs.Prelude.{◌≡◌, ◌+◌, ◌-◌, ◌<◌, ◌≤◌, length, slice_index, Some, None, IfErr, IfOk, OnOk};
+ghost use Rattle.nemo_base.specs.Cuts.{bad_cut, even_cuts, task_at};
 
 use nemo_value::Same;
 use std::marker::Model;
@@ -82,6 +82,30 @@ impl Cuts {
         ensures { result.now ≡ self.now }
     {
         &self.places[..self.count]
+    }
+
+    /// How many tasks the vertex has: 1 to 64.
+    pub fn tasks(&self) -> u32
+        ensures count { result ≡ length self.now + 1 }
+        ensures few { result ≤ 64 }
+    {
+        self.count as u32 + 1
+    }
+
+    /// The task that takes the bucket.
+    pub fn task_of(&self, bucket: u8) -> u32
+        ensures counted { result ≡ task_at self.now bucket }
+        ensures within { result ≤ length self.now }
+        ensures above { 0 < result → slice_index self.now (result - 1) ≤ bucket }
+        ensures below { result < length self.now → bucket < slice_index self.now result }
+    {
+        let last = self.tasks() - 1;
+        for (task, cut) in self.as_slice().iter().enumerate() {
+            if u16::from(bucket) < *cut {
+                return task as u32;
+            }
+        }
+        last
     }
 }
 

@@ -1,9 +1,8 @@
 -- Tables by number: a change at one place, and tables that grow edge by edge.
-use Rattle.std.proofs.Common.{◌≡◌, ◌≢◌, refl, sym, ap, ◌∙◌, ℕ, zero, suc, ◌+◌, ◌<◌, ◌==◌, ◌||◌, Bool, true, false, List, [], ◌∷◌, ◌++◌, map, filter, length, Option, Some, None, slice_get, slice_set, replicate, subst, arith, append-nil, cond, inl, inr, take, slice_index_or, get_or, ◌-◌, ◌&&◌}
+use Rattle.std.proofs.Common.{◌≡◌, ◌≢◌, refl, sym, ap, ◌∙◌, ℕ, zero, suc, ◌+◌, ◌<◌, ◌==◌, ◌||◌, Bool, true, false, List, [], ◌∷◌, ◌++◌, map, filter, length, Option, Some, None, slice_get, replicate, subst, arith, append-nil, cond, inl, inr, take, slice_index_or, get_or, ◌-◌, ◌&&◌}
 use Rattle.std.specs.List.{list_all, list_any}
 use Rattle.std.proofs.Math.Seq.{take-suc}
 use Rattle.std.proofs.lemmas.Bool.Decides.{eqb_tells}
-use Rattle.std.proofs.lemmas.List.Folds.{list_any-append}
 use Rattle.std.proofs.lemmas.List.Elements.{filter-append}
 use Rattle.nemo_ir.specs.Along.{counted, below}
 use Rattle.nemo_ir.specs.declared.dag.IrDag.{IrDag}

@@ -1,6 +1,7 @@
 ghost use Rattle.std.specs.Prelude.{◌≡◌, Err, IfErr, IfOk};
 ghost use Rattle.nemo_check.specs.Finds.{IsEnd};
 ghost use Rattle.nemo_check.specs.declared.checker.CheckEnd.{CheckEnd};
+ghost use Rattle.nemo_ir.specs.Rewrites.{Computes, IsLocal};
 ghost use Rattle.nemo_ir.specs.Valid.{Valid};
 
 use crate::edges::{first_falling, first_uncounted, first_uneven, first_untaken};
@@ -42,9 +43,14 @@ impl From<NoMemory> for CheckEnd {
 /// 7. The ends of a OneToOne edge have equal parallelism.
 /// 8. Each out-edge of a Trigger is Hash.
 /// 9. A vertex has a number below 4,096 and 1 to 64 tasks.
+///
+/// A DAG that it accepts computes the flat job however the keys are split among the tasks, and what a task of it gives
+/// depends on the cuts of its vertex and of those above it alone.
 pub fn check(alloc: Global, flat: &FlatJob, dag: &IrDag) -> Result<(), CheckEnd>
     ensures ok { IfOk result (λ _. Valid flat.now dag.now) }
     ensures err { IfErr result (IsEnd flat.now dag.now) }
+    ensures computes { IfOk result (λ _. Computes flat.now dag.now) }
+    ensures local { IfOk result (λ _. IsLocal flat.now dag.now) }
 {
     if let Some(edge) = first_falling(dag) {
         return refused(1, edge);

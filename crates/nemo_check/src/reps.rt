@@ -1,7 +1,7 @@
 ghost use Rattle.std.specs.Prelude.{◌≡◌, ◌↔◌, ◌<◌, length, map, slice_get, slice_index_or, IsTrue, IfOk};
 ghost use Rattle.nemo_check.specs.Finds.{Finds};
 ghost use Rattle.nemo_check.specs.Tables as table;
-ghost use Rattle.nemo_ir.specs.Flat.{transform_of};
+ghost use Rattle.nemo_ir.specs.Flat.{IsFlat, transform_of};
 ghost use Rattle.nemo_ir.specs.Nodes as nodes;
 ghost use Rattle.nemo_ir.specs.Valid.{Meets, StandsFor, V4, kinds_at};
 
@@ -188,7 +188,8 @@ pub(crate) fn first_unmatched(
 ) -> Option<usize>
     requires table { in_edges.now ≡ table.in_edges dag.now }
     requires ops { ops.now ≡ nodes.resolved dag.now }
-    ensures { Finds flat.now dag.now V4 result }
+    ensures found { Finds flat.now dag.now V4 result }
+    ensures kept { IsFlat flat.now }
 {
     for place in 0..flat.vertices.len() + 1 {
         if !has_rep(flat, dag, in_edges, ops, place) {

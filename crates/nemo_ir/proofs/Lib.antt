@@ -1,3 +1,16 @@
+pub mod Carrying
+pub mod Computing
+pub mod Dealing
+pub mod EdgesBring
+pub mod Entries
 pub mod FlatPlaces
 pub mod Lines
+pub mod LocalParts
+pub mod Origins
 pub mod Places
+pub mod PortEdges
+pub mod Reps
+pub mod Sources
+pub mod Steps
+pub mod ValidNodes
+pub mod WiredNodes

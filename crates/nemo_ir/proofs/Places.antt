@@ -116,6 +116,12 @@ list_all-at p [] i x e h = cc
 list_all-at p (y ∷ ys) zero x e h = let same : y ≡ x = cc in ap p (sym same) ∙ first_so (p y) (list_all p ys) h
 list_all-at p (y ∷ ys) (suc i) x e h = list_all-at p ys i x e (second_so (p y) (list_all p ys) h)
 
+-- each item passes at its place
+pub all_at-at : {X : Type 0} (test : ℕ → X → Bool) (k : ℕ) (xs : List X) (i : ℕ) (x : X) → slice_get xs i ≡ Some x → all_at test k xs ≡ true → test (k + i) x ≡ true
+all_at-at test k [] i x e h = cc
+all_at-at test k (y ∷ ys) zero x e h = ap (λ n. test n x) (sym (none k)) ∙ ap (test k) (sym (same_item y x e)) ∙ first_so (test k y) (all_at test (k + 1) ys) h
+all_at-at test k (y ∷ ys) (suc i) x e h = ap (λ n. test n x) (sym (next k i)) ∙ all_at-at test (k + 1) ys i x e (second_so (test k y) (all_at test (k + 1) ys) h)
+
 ---- numbers
 
 pub counted_get : (k n i : ℕ) → i < n → slice_get (counted k n) i ≡ Some (k + i)

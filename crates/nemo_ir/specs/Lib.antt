@@ -3,6 +3,7 @@ pub mod Flat
 pub mod Line
 pub mod Nodes
 pub mod Part
+pub mod Rewrites
 pub mod Uniform
 pub mod Valid
 pub mod Value

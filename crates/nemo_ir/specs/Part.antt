@@ -1,6 +1,7 @@
 -- What each task of a DAG's vertex gives.
-use Rattle.std.specs.Prelude.{ℕ, suc, ◌+◌, ◌%◌, ◌==◌, List, [], ◌∷◌, length, map, filter, slice_index_or, nat_le, if◌then◌else◌}
+use Rattle.std.specs.Prelude.{ℕ, ◌+◌, ◌%◌, ◌==◌, List, [], ◌∷◌, length, map, filter, slice_index_or, if◌then◌else◌}
 use Rattle.std.specs.List.{flat_map}
+use Rattle.nemo_base.specs.Cuts.{task_at}
 use Rattle.nemo_base.specs.declared.annotation.Pattern.{Pattern}
 use Rattle.nemo_base.specs.declared.annotation.Pattern.TheVariants.{OneToOne, Broadcast, Hash, Spread}
 use Rattle.nemo_value.specs.Bucket.{bucket_of}
@@ -31,13 +32,9 @@ abbrev pub dealt : ℕ → ℕ → ℕ → List Row → List Row
 dealt n i k [] = []
 dealt n i k (r ∷ rows) = if k % n == i then r ∷ dealt n i (k + 1) rows else dealt n i (k + 1) rows
 
--- the task on which a bucket lies: how many cuts it has passed
-abbrev pub lies : List ℕ → ℕ → ℕ
-lies [] bucket = 0
-lies (c ∷ cuts) bucket = if nat_le c bucket then suc (lies cuts bucket) else 0
-
+-- the task on which the bucket of a row's key lies
 abbrev pub task_of : List ℕ → Row → ℕ
-task_of cuts r = lies cuts (bucket_of (key r))
+task_of cuts r = task_at cuts (bucket_of (key r))
 
 -- what task i of n gets along an edge, by the consumer's cuts
 abbrev pub brought : List ℕ → ℕ → Parts → Pattern → ℕ → ByNumber

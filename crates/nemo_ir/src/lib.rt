@@ -3,8 +3,10 @@
 
 mod dag;
 mod flat;
+mod law;
 mod part;
 
 pub use dag::{IrDag, IrEdge, IrVertex, VertexKind};
 pub use flat::{FlatJob, FlatVertex};
-pub use part::source_part;
+pub use law::split_law;
+pub use part::{hash_part, source_part, spread_part};

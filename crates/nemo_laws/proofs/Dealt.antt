@@ -1,5 +1,5 @@
 -- Rows that are dealt out: each goes to one task.
-use Rattle.std.proofs.Common.{arith, ◌≡◌, refl, ℕ, ◌+◌, ◌≤◌, ◌==◌, List, [], ◌∷◌, ◌++◌, Bool, true, false, cond}
+use Rattle.std.proofs.Common.{◌≡◌, refl, ℕ, ◌+◌, ◌≤◌, ◌==◌, List, [], ◌∷◌, Bool, true, false, cond}
 use Rattle.std.specs.Prelude.{◌%◌}
 use Rattle.std.specs.Cmp.{first_so, second_so}
 use Rattle.std.specs.Cmp.Derive.{both_true}
@@ -7,18 +7,8 @@ use Rattle.std.specs.List.{flat_map, list_all}
 use Rattle.nemo_transform.specs.Gives.{Row, is_filled}
 use Rattle.nemo_ir.specs.Along.{below}
 use Rattle.nemo_ir.specs.Part.{dealt}
-use Rattle.nemo_value.proofs.Perm.{Perm, then}
-use Rattle.nemo_value.proofs.JoinedLists.{flat_none, flat_same}
-use Rattle.nemo_value.proofs.Permuted.{is, both, apart}
-use Rattle.nemo_value.proofs.Split.{in_front, single}
-
-dealt_from : (n k : ℕ) (rows : List Row) → 1 ≤ n → Perm (flat_map (λ i. dealt n i k rows) (below n)) rows
-dealt_from n k [] h = is (flat_none (λ i. []) (below n) (λ i. refl))
-dealt_from n k (r ∷ rows) h =
-    let one : ℕ → List Row = λ i. cond (k % n == i) (r ∷ []) [] in
-    let others : ℕ → List Row = λ i. dealt n i (k + 1) rows in
-    let e = flat_same (λ i. dealt n i k (r ∷ rows)) (λ i. one i ++ others i) (below n) (λ i. in_front (k % n == i) r (others i)) in
-    then (is e) (then (apart one others (below n)) (both (is (single r (k % n) n (omega arith))) (dealt_from n (k + 1) rows h)))
+use Rattle.nemo_ir.proofs.Dealing.{dealt_from}
+use Rattle.nemo_value.proofs.Perm.{Perm}
 
 -- each row is dealt to one task
 pub dealt_all : (n : ℕ) (rows : List Row) → 1 ≤ n → Perm (flat_map (λ i. dealt n i 0 rows) (below n)) rows

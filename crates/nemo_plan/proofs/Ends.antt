@@ -8,8 +8,8 @@ use Rattle.nemo_ir.specs.Along.{passes}
 use Rattle.nemo_ir.specs.Flat.{FlatForm, IsFlat, feeds_one, is_input, is_sink, transform_of}
 use Rattle.nemo_ir.specs.Line.{IsLine, one_before}
 use Rattle.nemo_ir.specs.declared.flat.FlatVertex.{FlatVertex}
-use Rattle.nemo_ir.proofs.Places.{from_none, got}
-use Rattle.nemo_plan.proofs.Lists.{all_at-at, list_any-none}
+use Rattle.nemo_ir.proofs.Places.{all_at-at, from_none, got}
+use Rattle.nemo_plan.proofs.Lists.{list_any-none}
 use Rattle.nemo_ir.proofs.Lines.{line_inputs}
 
 is_no : (b : Bool) → not b ≡ true → b ≡ false

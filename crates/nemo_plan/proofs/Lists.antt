@@ -3,24 +3,14 @@ use Rattle.std.proofs.Common.{arith, ◌≡◌, ◌∙◌, ap, sym, refl, ℕ, z
 use Rattle.std.proofs.lemmas.Bool.{cases_lt, ne_eqb, or_from}
 use Rattle.std.proofs.lemmas.List.{length-map, replicate-append-replicate}
 use Rattle.std.proofs.lemmas.Option.{slice_get-map, slice_get_within}
-use Rattle.std.specs.Cmp.{first_so, second_so}
 use Rattle.std.specs.Cmp.Derive.{both_true}
 use Rattle.std.specs.List.{cons_option, filter_map, flat_map, list_all, list_any}
 use Rattle.std.specs.Prelude.{option_map}
 use Rattle.nemo_base.specs.Numbered.{map_at}
-use Rattle.nemo_ir.specs.Along.{all_at, along, below, counted}
+use Rattle.nemo_ir.specs.Along.{along, below, counted}
 use Rattle.nemo_ir.proofs.Places.{below_get, counted_length, same_item}
 
 ---- tests
-
-pub all_at-at : {X : Type 0} (test : ℕ → X → Bool) (k : ℕ) (xs : List X) (i : ℕ) (x : X) → slice_get xs i ≡ Some x → all_at test k xs ≡ true → test (k + i) x ≡ true
-all_at-at test k [] i x e h = cc
-all_at-at test k (y ∷ ys) zero x e h =
-    let here : k + 0 ≡ k = omega arith in
-    ap (λ n. test n x) here ∙ ap (test k) (sym (same_item y x e)) ∙ first_so (test k y) (all_at test (k + 1) ys) h
-all_at-at test k (y ∷ ys) (suc i) x e h =
-    let up : k + suc i ≡ (k + 1) + i = omega arith in
-    ap (λ n. test n x) up ∙ all_at-at test (k + 1) ys i x e (second_so (test k y) (all_at test (k + 1) ys) h)
 
 pub list_any-none : {X : Type 0} (p : X → Bool) (xs : List X) → ((i : ℕ) (x : X) → slice_get xs i ≡ Some x → p x ≡ false) → list_any p xs ≡ false
 list_any-none p [] f = refl

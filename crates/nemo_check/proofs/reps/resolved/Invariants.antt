@@ -1,7 +1,6 @@
 use Rattle.std.proofs.Common.{◌≡◌, drop, [], length}
 use Rattle.nemo_ir.specs.Along.{along}
 use Rattle.nemo_ir.specs.Nodes.{resolve_step}
-use Rattle.nemo_check.specs.Tables.{in_edges}
 use Rattle.nemo_check.proofs.reps.resolved.Given as goal
 
 -- the Ops so far, and then those of the vertices that are left, are all Ops
