@@ -1,5 +1,6 @@
-ghost use Rattle.std.specs.Prelude.{◌≡◌, ◌≤◌, true, IfOk};
+ghost use Rattle.std.specs.Prelude.{◌≡◌, ◌≤◌, true, IfOk, codes, is_some};
 ghost use Rattle.std.specs.List.{list_all};
+ghost use Rattle.serde_json.specs.Find.{get};
 ghost use Rattle.serde_json.specs.View.{view};
 ghost use Rattle.nemo_flat.specs.Counts.{copies};
 ghost use Rattle.nemo_flat.specs.Flattened.{flattened};
@@ -46,6 +47,7 @@ pub fn read_bundle(alloc: Global, value: &Value) -> Result<Bundle, BundleEnd>
     ensures settings { IfOk result (λ b. AreInRange b.settings) }
     ensures filled { IfOk result (λ b. list_all has_fields b.job ≡ true) }
     ensures flat { IfOk result (λ b. b.flat ≡ flattened b.job) }
+    ensures given { IfOk result (λ b. is_some b.dag ≡ is_some (get (codes "dag") (view value.now))) }
 {
     let job = accepted_job(alloc, value)?;
     let flat = flatten(alloc, &job)?;
@@ -132,6 +134,7 @@ fn read_members(alloc: Global, value: &Value, flat: &[FlatVertex]) -> Result<Mem
     ensures members { Gives result (spec.members_of (view value.now) flat.now) }
     ensures tasks { IfOk result (λ m. (1 ≤ m.choices.parallelism) × (m.choices.parallelism ≤ 64)) }
     ensures settings { IfOk result (λ m. AreInRange m.choices.settings) }
+    ensures given { IfOk result (λ m. is_some m.dag ≡ is_some (get (codes "dag") (view value.now))) }
 {
     let choices = read_choices(alloc, value).map_err(|e| e.with(SETTING))?;
     let cluster = Cluster {

@@ -1,4 +1,4 @@
-ghost use Rattle.std.specs.Prelude.{◌≡◌, ◌≤◌, Some, IfOk, codes, option_and_then};
+ghost use Rattle.std.specs.Prelude.{◌≡◌, ◌≤◌, Some, IfOk, codes, is_some, option_and_then};
 ghost use Rattle.serde_json.specs.Find.{as_str, get};
 ghost use Rattle.serde_json.specs.View.{view, items_view};
 ghost use Rattle.nemo_bundle.specs.Answers.{Gives, Reads};
@@ -56,7 +56,8 @@ pub(crate) fn read_dag(
     value: &Value,
     flat: &[FlatVertex],
 ) -> Result<Option<IrDag>, BundleEnd>
-    ensures { Gives result (spec.dag_in flat.now (get (codes "dag") (view value.now))) }
+    ensures dag { Gives result (spec.dag_in flat.now (get (codes "dag") (view value.now))) }
+    ensures given { IfOk result (λ dag. is_some dag ≡ is_some (get (codes "dag") (view value.now))) }
 {
     match value.get("dag") {
         Some(dag) => Ok(Some(read_proposed(alloc, dag, flat)?)),

@@ -6,6 +6,7 @@
 mod calls;
 mod parts;
 mod report;
+mod splits;
 mod values;
 
 use nemo_io::{StdSource, read_to_end};
@@ -39,9 +40,12 @@ fn main(rt: HostRuntime) -> io::Result<ExitCode> {
 
 /// Runs a row, and counts it: one with a `call` through the library, any other through the top call.
 fn run(rt: &impl Print, alloc: Global, row: &Value, tally: &mut Tally) -> io::Result<()> {
-    if row.get("call").is_some() {
-        tally.count(rt, text(row, "value"), values::is_expected(alloc, row))
-    } else {
-        tally.count(rt, text(row, "name"), calls::is_expected(alloc, row)?)
+    match text(row, "call") {
+        "" => tally.count(rt, text(row, "name"), calls::is_expected(alloc, row)?),
+        "source_part" | "hash_part" | "spread_part" => {
+            let call = text(row, "call");
+            tally.count(rt, call, splits::is_expected(alloc, call, row))
+        }
+        _ => tally.count(rt, text(row, "value"), values::is_expected(alloc, row)),
     }
 }

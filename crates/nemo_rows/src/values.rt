@@ -1,4 +1,5 @@
 use crate::parts::{bytes_of, number, text};
+use crate::splits::numbers_of;
 use nemo_base::Cuts;
 use nemo_value::{
     Boxed, EvalFault, Expr, Field, List, Name, NoMemory, Oper, Record, Text, bucket_of, eval,
@@ -23,6 +24,8 @@ fn value_of(alloc: Global, row: &Value) -> Result<Vec<u8>, NoMemory> {
         "bucket" => bucket(alloc, row),
         "eval" => eval_of(alloc, row),
         "cuts" => cuts_of(alloc, row),
+        "even" => even_of(alloc, row),
+        "task" => task_of(alloc, row),
         _ => Ok(Vec::new(alloc)),
     }
 }
@@ -79,22 +82,29 @@ fn bucket(alloc: Global, row: &Value) -> Result<Vec<u8>, NoMemory> {
 }
 
 fn cuts_of(alloc: Global, row: &Value) -> Result<Vec<u8>, NoMemory> {
-    match Cuts::new(small_numbers(alloc, row.get("cuts"))?.as_slice()) {
+    match Cuts::new(numbers_of(alloc, row.get("cuts"))?.as_slice()) {
         Ok(cuts) => numbered(alloc, "cuts ", cuts.as_slice().len() as u64),
         Err(refused) => numbered(alloc, "place ", refused.place),
     }
 }
 
-/// The numbers of an array; one beyond 16 bits is their last.
-fn small_numbers(alloc: Global, value: Option<&Value>) -> Result<Vec<u16>, NoMemory> {
-    let mut numbers = Vec::new(alloc);
-    if let Some(items) = value.and_then(Value::as_array) {
-        for item in items {
-            let n = item.as_u64().unwrap_or(0);
-            numbers.push(u16::try_from(n).unwrap_or(u16::MAX))?;
-        }
+/// The even cuts of 1 to 64 tasks.
+fn even_of(alloc: Global, row: &Value) -> Result<Vec<u8>, NoMemory> {
+    let tasks = number(row, "tasks").max(1).min(64) as u32;
+    let mut text = String::new(alloc);
+    for cut in Cuts::even(tasks).as_slice() {
+        text.push_str(format!(in alloc; "{cut},")?.as_str())?;
     }
-    Ok(numbers)
+    Ok(text.into_bytes())
+}
+
+/// The task on which a bucket lies, and how many tasks there are.
+fn task_of(alloc: Global, row: &Value) -> Result<Vec<u8>, NoMemory> {
+    let Ok(cuts) = Cuts::new(numbers_of(alloc, row.get("cuts"))?.as_slice()) else {
+        return Ok(Vec::new(alloc));
+    };
+    let bucket = number(row, "bucket").min(255) as u8;
+    Ok(format!(in alloc; "{} of {}", cuts.task_of(bucket), cuts.tasks())?.into_bytes())
 }
 
 /// An operand: the place of a field, or a constant.

@@ -25,7 +25,7 @@ use Rattle.nemo_laws.specs.Written.{written}
 use Rattle.nemo_plan.specs.Form.{PlanForm}
 use Rattle.nemo_policy.specs.Passes.{plain_dag}
 use Rattle.nemo_report.specs.Texts.{sinks_text}
-use Rattle.nemo_top.specs.Served.{served}
+use Rattle.nemo_top.specs.Served.{checked, served}
 use Rattle.nemo_top.specs.Statuses.{last_line, accepted_line}
 use Rattle.nemo_top.specs.Words.{command_of, is_command}
 use Rattle.nemo_top.specs.declared.word.Command.{Command}
@@ -51,7 +51,7 @@ IsJson bytes d = IsUtf8 bytes × (read bytes ≡ Some d)
 -- the bundle that a command reads
 abbrev pub bundle_for : Command → Data → Result Bundle Refusal
 bundle_for Eval d = bundle_of d
-bundle_for Check d = served d (bundle_of d)
+bundle_for Check d = checked d (bundle_of d)
 bundle_for Solo d = served d (bundle_of d)
 
 -- the bytes are this bundle of a command

@@ -1,5 +1,6 @@
--- What `check` and `solo` serve for now: chains, whose DAG may be proposed as Ops of one task each.
-use Rattle.std.specs.Prelude.{ℕ, ◌&&◌, nat_le, Bool, true, if◌then◌else◌, List, [], ◌∷◌, Option, Some, None, is_none, Result, Ok, Err, codes}
+-- What `check` and `solo` serve for now: chains, whose DAG may be proposed as Ops of one task each; and `check` every
+-- bundle that proposes a DAG.
+use Rattle.std.specs.Prelude.{ℕ, ◌&&◌, nat_le, Bool, true, if◌then◌else◌, List, [], ◌∷◌, Option, Some, None, is_none, is_some, Result, Ok, Err, codes}
 use Rattle.std.specs.List.{list_all}
 use Rattle.serde_json.specs.Data.{Data}
 use Rattle.serde_json.specs.Find.{get}
@@ -39,3 +40,7 @@ is_served d b = has_none_of unserved_members d && is_chain b.job && is_single_if
 abbrev pub served : Data → Result Bundle Refusal → Result Bundle Refusal
 served d (Ok b) = if is_served d b then Ok b else Err unserved
 served d (Err r) = Err (narrowed r)
+
+-- where a DAG is proposed every bundle, and else one that is served
+abbrev pub checked : Data → Result Bundle Refusal → Result Bundle Refusal
+checked d r = if is_some (get (codes "dag") d) then r else served d r

@@ -1,4 +1,4 @@
-ghost use Rattle.std.specs.Prelude.{◌≡◌, ◌≤◌, []};
+ghost use Rattle.std.specs.Prelude.{◌≡◌, ◌≤◌, [], None};
 ghost use Rattle.std.specs.Cow.{cow_slice_items};
 ghost use Rattle.nemo_ir.specs.Line.{IsLine};
 ghost use Rattle.nemo_policy.specs.Passes.{plain_dag};
@@ -19,7 +19,7 @@ use std::alloc::Global;
 pub(crate) fn check_bundle(alloc: Global, bundle: &Bundle) -> Reached
     requires some { 1 ≤ bundle.now.parallelism }
     requires few { bundle.now.parallelism ≤ 64 }
-    requires line { IsLine bundle.now.flat }
+    requires line { bundle.now.dag ≡ None → IsLine bundle.now.flat }
     ensures { Runs Command.Check bundle.now result.status result.log (cow_slice_items result.text) }
 {
     match &bundle.dag {

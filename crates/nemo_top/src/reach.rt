@@ -10,7 +10,7 @@ ghost use Rattle.nemo_top.specs.declared.word.Command.{Command};
 use crate::accepting::check_bundle;
 use crate::lines::{Reached, numbered_line, with_line, with_text};
 use crate::running::run_bundle;
-use crate::serving::read_served;
+use crate::serving::{read_checked, read_served};
 use crate::status::Status;
 use crate::word::{Command, Word, command_of};
 use nemo_bundle::{BundleEnd, read_job};
@@ -99,7 +99,7 @@ fn job_of(alloc: Global, value: Value) -> Result<Job, BundleEnd>
 fn answer_check(alloc: Global, value: Value) -> Reached
     ensures { FollowsFrom Command.Check (view value) result.status result.log (cow_slice_items result.text) }
 {
-    match read_served(alloc, value) {
+    match read_checked(alloc, value) {
         Ok(bundle) => check_bundle(alloc, &bundle),
         Err(end) => refuse(alloc, end),
     }

@@ -1,10 +1,11 @@
-ghost use Rattle.std.specs.Prelude.{◌≡◌, ◌≤◌, true, is_none, IfOk, IfSome};
+ghost use Rattle.std.specs.Prelude.{◌≡◌, ◌≤◌, true, is_none, None, IfOk, IfSome};
 ghost use Rattle.std.specs.List.{list_all};
 ghost use Rattle.serde_json.specs.Find.{get};
 ghost use Rattle.serde_json.specs.View.{view};
 ghost use Rattle.nemo_bundle.specs.Answers.{Gives};
 ghost use Rattle.nemo_bundle.specs.Read.{bundle_of};
 ghost use Rattle.nemo_flat.specs.Flat.{flat_of};
+ghost use Rattle.nemo_ir.specs.Line.{IsLine};
 ghost use Rattle.nemo_ir.specs.Uniform as uniform;
 ghost use Rattle.nemo_ir.specs.Uniform.{is_uniform};
 ghost use Rattle.nemo_job.specs.Chain.{is_built};
@@ -18,7 +19,7 @@ use nemo_value::NoMemory;
 use serde_json::Value;
 use std::alloc::Global;
 
-/// The refusal of what `check` and `solo` don't serve yet.
+/// The refusal of what isn't served yet.
 const UNSERVED: BundleEnd = BundleEnd::Refused { code: 90, place: 0 };
 
 /// The last of the codes that they tell.
@@ -34,6 +35,7 @@ pub(crate) fn read_served(alloc: Global, value: Value) -> Result<Bundle, BundleE
     ensures tasks { IfOk result (λ b. (1 ≤ b.parallelism) × (b.parallelism ≤ 64)) }
     ensures chain { IfOk result (λ b. is_built b.job ≡ true) }
     ensures flat { IfOk result (λ b. b.flat ≡ flat_of b.job) }
+    ensures line { IfOk result (λ b. IsLine b.flat) }
     ensures uniform { IfOk result (λ b. IfSome b.dag (λ dag. is_uniform dag ≡ true)) }
 {
     match read_bundle(alloc, &value) {
@@ -46,6 +48,19 @@ pub(crate) fn read_served(alloc: Global, value: Value) -> Result<Bundle, BundleE
         }
         Err(BundleEnd::Refused { code, .. }) if code > VERTEX_SHAPE => Err(UNSERVED),
         Err(end) => Err(end),
+    }
+}
+
+/// The bundle that `check` reads: any that proposes a DAG, and else one that is served.
+pub(crate) fn read_checked(alloc: Global, value: Value) -> Result<Bundle, BundleEnd>
+    ensures bundle { Gives result (spec.checked (view value) (bundle_of (view value))) }
+    ensures tasks { IfOk result (λ b. (1 ≤ b.parallelism) × (b.parallelism ≤ 64)) }
+    ensures line { IfOk result (λ b. b.dag ≡ None → IsLine b.flat) }
+{
+    if value.get("dag").is_some() {
+        read_bundle(alloc, &value)
+    } else {
+        read_served(alloc, value)
     }
 }
 
