@@ -1,2 +1,3 @@
 mod EvenCuts
+pub mod BucketTasks
 pub mod NewCuts

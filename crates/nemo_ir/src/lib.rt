@@ -8,5 +8,5 @@ mod part;
 
 pub use dag::{IrDag, IrEdge, IrVertex, VertexKind};
 pub use flat::{FlatJob, FlatVertex};
-pub use law::split_law;
+pub use law::{rewrite_law, split_law};
 pub use part::{hash_part, source_part, spread_part};

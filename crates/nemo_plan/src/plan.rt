@@ -1,6 +1,7 @@
 ghost use Rattle.std.specs.Prelude.{◌≡◌, ◌<◌, true, IfOk};
 ghost use Rattle.nemo_base.specs.Sound.{is_sound};
 ghost use Rattle.nemo_ir.specs.Line.{IsLine};
+ghost use Rattle.nemo_ir.specs.Rewrites.{Computes, IsLocal};
 ghost use Rattle.nemo_ir.specs.Uniform.{is_uniform};
 ghost use Rattle.nemo_ir.specs.Valid.{Valid};
 ghost use Rattle.nemo_plan.specs.Form as form;
@@ -45,7 +46,9 @@ impl Plan {
         requires valid { Valid flat dag }
         requires line { IsLine flat }
         requires uniform { is_uniform dag ≡ true }
-        ensures { IfOk result (λ p. p ≡ record { flat = flat; dag = dag }) }
+        ensures plan { IfOk result (λ p. p ≡ record { flat = flat; dag = dag }) }
+        ensures computes { IfOk result (λ p. Computes p.flat p.dag) }
+        ensures local { IfOk result (λ p. IsLocal p.flat p.dag) }
     {
         let count = dag.vertices.len() as u32;
         let stages = line_stages(alloc, count)?;

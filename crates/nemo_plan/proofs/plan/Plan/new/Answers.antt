@@ -5,6 +5,9 @@ use Rattle.nemo_ir.specs.Flat.{IsFlat}
 use Rattle.nemo_ir.specs.Uniform.{first_tasks}
 use Rattle.nemo_ir.specs.declared.dag.IrVertex.{IrVertex}
 use Rattle.nemo_ir.specs.declared.dag.VertexKind.TheVariants.{Op}
+use Rattle.nemo_ir.proofs.Computing.{computes}
+use Rattle.nemo_ir.proofs.LocalParts.{parts_local}
+use Rattle.nemo_ir.proofs.ValidNodes.{valid_wired}
 use Rattle.nemo_plan.specs.Line.{line_graph}
 use Rattle.nemo_plan.proofs.LinePlan.{first_parallelism, line_plan, plan_kept}
 use Rattle.nemo_plan.proofs.plan.Plan.new.Goals as goal
@@ -23,3 +26,9 @@ invariant_of-result c =
     plan_kept c.args.flat c.args.dag (subst IsFlat c.flat.view_is c.flat.invariant) c.requires.line c.requires.valid c.requires.uniform c.in_ok-stages.stages c.in_ok-graph.graph
     (c.in_ok-stages.ensures ∙ ap (λ n. below n ∷ []) count)
     (c.in_ok-graph.ensures ∙ ap (λ n. line_graph n (get_or c.as_slice.result.now 0 none).parallelism) count ∙ ap (line_graph (length c.args.dag.vertices)) tasks)
+
+pub returns-clause-computes : goal.returns-clause-computes
+returns-clause-computes c = computes c.args.flat c.args.dag (subst IsFlat c.flat.view_is c.flat.invariant) c.requires.valid (valid_wired c.args.flat c.args.dag c.requires.valid)
+
+pub returns-clause-local : goal.returns-clause-local
+returns-clause-local c = parts_local c.args.flat c.args.dag c.requires.valid
