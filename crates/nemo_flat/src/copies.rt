@@ -16,14 +16,17 @@ use nemo_ir::{FlatJob, FlatVertex};
 use nemo_job::{Job, JobVertex, unroll};
 use nemo_value::{List, NoMemory};
 use std::alloc::Global;
+use thiserror::Error;
 
 /// The most copies of a job's vertices.
 const MAX_COPIES: u64 = 512;
 
 /// Why a job has no flat job: it has more than 512 copies, or memory ran out.
-#[derive(Clone, Copy, Debug, PartialEq, Eq)]
+#[derive(Clone, Copy, Debug, PartialEq, Eq, Error)]
 pub enum FlattenRefused {
+    #[error("{count} copies of vertices, of which there may be 512")]
     TooMany { count: u64 },
+    #[error("no memory")]
     NoMemory,
 }
 
