@@ -3,8 +3,8 @@ ghost use Rattle.serde_json.specs.View.{view};
 ghost use Rattle.nemo_bundle.specs.Answers.{Reads, Walks};
 ghost use Rattle.nemo_bundle.specs.Choices as spec;
 
-use crate::dags::read_ranged;
 use crate::end::{PartEnd, WalkEnd};
+use crate::parts::read_ranged;
 use crate::read::{FromJson, read_member};
 use nemo_base::{Policy, Settings};
 use serde_json::Value;

@@ -1,54 +1,18 @@
-ghost use Rattle.std.specs.Prelude.{◌≡◌, ◌≤◌, Some, IfOk, codes, is_some, option_and_then};
-ghost use Rattle.serde_json.specs.Find.{as_str, get};
+ghost use Rattle.std.specs.Prelude.{◌≡◌, Some, IfOk, codes, is_some, option_and_then};
+ghost use Rattle.serde_json.specs.Find.{get};
 ghost use Rattle.serde_json.specs.View.{view, items_view};
 ghost use Rattle.nemo_bundle.specs.Answers.{Gives, Reads};
 ghost use Rattle.nemo_bundle.specs.Dags as spec;
 ghost use Rattle.nemo_bundle.specs.Parts as parts;
 
 use crate::end::{BundleEnd, PartEnd};
+use crate::parts::is_word;
 use crate::read::{FromJson, ReadAt, read_items_at};
 use nemo_base::{Class, Flow, Keep, Pattern};
 use nemo_ir::{FlatVertex, IrDag, IrEdge, IrVertex, VertexKind};
 use nemo_value::List;
 use serde_json::Value;
 use std::alloc::Global;
-
-/// A whole number of 32 bits without a sign.
-impl FromJson for u32 {
-    ghost use Rattle.nemo_bundle.specs.Parts.{number_of};
-
-    ghost reads = { number_of };
-
-    fn from_json(_alloc: Global, value: &Value) -> Result<u32, PartEnd> {
-        let n = value.as_i64().ok_or(PartEnd::Malformed)?;
-        u32::try_from(n).map_err(|_| PartEnd::Malformed)
-    }
-}
-
-/// A number of at least `least` and at most `most`.
-pub(crate) fn read_ranged(
-    alloc: Global,
-    value: &Value,
-    least: u32,
-    most: u32,
-) -> Result<u32, PartEnd>
-    ensures number { Reads result (parts.ranged least most (view value.now)) }
-    ensures range { IfOk result (λ n. (least ≤ n) × (n ≤ most)) }
-{
-    let n = u32::from_json(alloc, value)?;
-    if least <= n && n <= most {
-        Ok(n)
-    } else {
-        Err(PartEnd::Malformed)
-    }
-}
-
-/// Whether the value is this text.
-pub(crate) fn is_word(value: &Value, word: &str) -> bool
-    ensures { result ≡ parts.is_word word.now (as_str (view value.now)) }
-{
-    value.as_str() == Some(word)
-}
 
 /// The DAG of the member `dag`, where it is there, for a flat job of these vertices.
 pub(crate) fn read_dag(

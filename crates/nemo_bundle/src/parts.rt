@@ -1,15 +1,53 @@
-ghost use Rattle.std.specs.Prelude.{◌≡◌, IfOk};
+ghost use Rattle.std.specs.Prelude.{◌≡◌, ◌≤◌, IfOk};
+ghost use Rattle.serde_json.specs.Find.{as_str};
 ghost use Rattle.serde_json.specs.View.{view, items_view};
 ghost use Rattle.nemo_bundle.specs.Answers.{Reads};
 ghost use Rattle.nemo_bundle.specs.Exprs as spec;
+ghost use Rattle.nemo_bundle.specs.Parts as part;
 ghost use Rattle.nemo_bundle.specs.Parts.{place_of};
 
-use crate::dags::is_word;
 use crate::end::PartEnd;
 use crate::read::{FromJson, owned};
 use nemo_value::{Boxed, Expr, Field, List, MAX_FIELDS, Name, NoMemory, Oper, Record, Text};
 use serde_json::Value;
 use std::alloc::Global;
+
+/// A whole number of 32 bits without a sign.
+impl FromJson for u32 {
+    ghost use Rattle.nemo_bundle.specs.Parts.{number_of};
+
+    ghost reads = { number_of };
+
+    fn from_json(_alloc: Global, value: &Value) -> Result<u32, PartEnd> {
+        let n = value.as_i64().ok_or(PartEnd::Malformed)?;
+        u32::try_from(n).map_err(|_| PartEnd::Malformed)
+    }
+}
+
+/// A number of at least `least` and at most `most`.
+pub(crate) fn read_ranged(
+    alloc: Global,
+    value: &Value,
+    least: u32,
+    most: u32,
+) -> Result<u32, PartEnd>
+    ensures number { Reads result (part.ranged least most (view value.now)) }
+    ensures range { IfOk result (λ n. (least ≤ n) × (n ≤ most)) }
+{
+    let n = u32::from_json(alloc, value)?;
+    if least <= n && n <= most {
+        Ok(n)
+    } else {
+        Err(PartEnd::Malformed)
+    }
+}
+
+/// Whether the value is this text.
+pub(crate) fn is_word(value: &Value, word: &str) -> bool
+    ensures { result ≡ part.is_word word.now (as_str (view value.now)) }
+{
+    value.as_str() == Some(word)
+}
 
 /// A whole number of 64 bits, or a text of at most 65,535 bytes.
 impl FromJson for Field {

@@ -6,8 +6,8 @@ ghost use Rattle.nemo_bundle.specs.Parts as parts;
 ghost use Rattle.nemo_bundle.specs.Scripts as spec;
 
 use crate::choices::Cluster;
-use crate::dags::{is_word, read_ranged};
 use crate::end::{PartEnd, WalkEnd};
+use crate::parts::{is_word, read_ranged};
 use crate::read::FromJson;
 use nemo_base::{Action, Cuts, ScriptLine};
 use nemo_value::List;
