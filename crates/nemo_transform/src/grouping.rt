@@ -13,7 +13,7 @@ ghost use Rattle.nemo_transform.specs.Groups.{group_of, fault_of, at_key, key_of
 ghost use Rattle.nemo_transform.specs.declared.transform.Transform.TheVariants.{Reduce, Distinct};
 
 use crate::applying::Applied;
-use crate::fault::{Fault, in_order};
+use crate::fault::Fault;
 use crate::transform::Folding;
 use nemo_value::{EvalFault, Field, Kind, List, NoMemory, Record, TryCopy, sort_records};
 use std::alloc::Global;
@@ -53,10 +53,7 @@ pub(crate) fn reduced(
     let groups = groups_of(alloc, by, field, rows, &mut faults)?;
     let entries = in_key_order(alloc, groups)?;
     let given = rows_of(alloc, entries, &mut faults)?;
-    Ok(Applied {
-        rows: given,
-        faults: in_order(alloc, faults)?,
-    })
+    Applied::new(alloc, given, faults)
 }
 
 /// The group of the rows of each key. The faults of bad rows go behind others.

@@ -4,13 +4,14 @@ ghost use Rattle.std.specs.Option.{option_copied};
 ghost use Rattle.nemo_value.specs.Answers.{Gives};
 ghost use Rattle.nemo_value.specs.Val.{val};
 ghost use Rattle.nemo_value.specs.declared.field.Field.TheVariants as field;
-ghost use Rattle.nemo_transform.specs.Gives.{emitted, row_of, rows_or, rows_in, own_faults, words_in, pieces, is_filled};
+ghost use Rattle.nemo_transform.specs.Gives.{answers, emitted, row_of, rows_or, rows_in, own_faults, words_in, pieces, is_filled};
 ghost use Rattle.nemo_transform.specs.Passing.{passes};
 ghost use Rattle.nemo_transform.specs.RowByRow.{rows_for, Adds, Puts};
 ghost use Rattle.nemo_transform.specs.Soundness.{is_few, is_sound};
+ghost use Rattle.nemo_transform.specs.declared.transform.Transform.TheVariants.{Filter};
 
 use crate::applying::Applied;
-use crate::fault::{Fault, in_order};
+use crate::fault::Fault;
 use crate::transform::{Output, Transform};
 use nemo_value::{EvalFault, Expr, Field, Kind, List, NoMemory, Record, Text, TryCopy, eval};
 use std::alloc::Global;
@@ -37,10 +38,51 @@ pub(crate) fn row_by_row(
             Err(EvalFault::NoMemory) => return Err(NoMemory),
         }
     }
-    Ok(Applied {
-        rows: given,
-        faults: in_order(alloc, faults)?,
-    })
+    Applied::new(alloc, given, faults)
+}
+
+/// As `row_by_row`, but each row is let go as soon as its own rows are made, or moves into its fault.
+pub(crate) fn row_by_row_owned(
+    alloc: Global,
+    transform: &Transform,
+    rows: List<Record>,
+) -> Result<Applied, NoMemory>
+    requires { IsTrue (is_sound transform.now) }
+    ensures rows { IfOk result (λ a. a.rows ≡ rows_in (flat_map (λ r. rows_or r (rows_for transform.now r)) rows)) }
+    ensures faults { IfOk result (λ a. a.faults ≡ own_faults (flat_map (λ r. rows_or r (rows_for transform.now r)) rows)) }
+{
+    let mut given = List::with_capacity(alloc, rows.len())?;
+    let mut faults = Vec::new(alloc);
+    for row in rows.into_vec() {
+        match add_rows(alloc, transform, &row, &mut given) {
+            Ok(()) => drop(row),
+            Err(EvalFault::Fault(kind)) => faults.push(Fault { kind, rec: row })?,
+            Err(EvalFault::NoMemory) => return Err(NoMemory),
+        }
+    }
+    Applied::new(alloc, given, faults)
+}
+
+/// What a filter gives: a row that it keeps moves to the rows, and one without an answer into its fault.
+pub(crate) fn filter_owned(
+    alloc: Global,
+    cond: &Expr,
+    rows: List<Record>,
+) -> Result<Applied, NoMemory>
+    ensures rows { IfOk result (λ a. a.rows ≡ rows_in (answers (Filter cond.now) rows [])) }
+    ensures faults { IfOk result (λ a. a.faults ≡ own_faults (answers (Filter cond.now) rows [])) }
+{
+    let mut given = List::with_capacity(alloc, rows.len())?;
+    let mut faults = Vec::new(alloc);
+    for row in rows.into_vec() {
+        match is_so(alloc, cond, &row) {
+            Ok(true) => given.push(row)?,
+            Ok(false) => drop(row),
+            Err(EvalFault::Fault(kind)) => faults.push(Fault { kind, rec: row })?,
+            Err(EvalFault::NoMemory) => return Err(NoMemory),
+        }
+    }
+    Applied::new(alloc, given, faults)
 }
 
 /// Puts the rows that a transform gives of a row at the end. On a fault the others stay as they were.

@@ -1,4 +1,4 @@
-use Rattle.std.proofs.Common.{◌∙◌}
+use Rattle.std.proofs.Common.{◌≡◌, ◌∙◌, IfOk, subst}
 use Rattle.std.specs.HashMap.{get_by}
 use Rattle.nemo_transform.specs.Groups.{at_key}
 use Rattle.nemo_transform.proofs.GroupSteps.{all_rows, all_faults}
@@ -6,11 +6,12 @@ use Rattle.nemo_transform.proofs.grouping.reduced.Goals as goal
 
 pub returns-clause-rows : goal.returns-clause-rows
 returns-clause-rows c =
-    c.in_ok-given.ensures.rows
-    ∙ all_rows c.args.by c.args.field c.args.rows.now c.in_ok-entries.entries.items (λ k. get_by (at_key k) c.in_ok-groups.groups) c.in_ok-entries.ensures.order c.in_ok-entries.ensures.same c.in_ok-groups.ensures.groups
+    let given = c.in_ok-given.ensures.rows
+    ∙ all_rows c.args.by c.args.field c.args.rows.now c.in_ok-entries.entries.items (λ k. get_by (at_key k) c.in_ok-groups.groups) c.in_ok-entries.ensures.order c.in_ok-entries.ensures.same c.in_ok-groups.ensures.groups in
+    subst (λ rows. IfOk c.new.result (λ a. a.rows ≡ rows)) given c.new.ensures.rows
 
 pub returns-clause-faults : goal.returns-clause-faults
 returns-clause-faults c =
-    c.in_ok-in_order.ensures
-    ∙ all_faults c.args.by c.args.field c.args.rows.now c.in_ok-entries.entries.items (λ k. get_by (at_key k) c.in_ok-groups.groups) c.in_ok-entries.ensures.order c.in_ok-entries.ensures.same c.in_ok-groups.ensures.groups
-    c.new-faults.result.items c.groups_of.new.faults.items _ c.new-faults.ensures.items c.in_ok-groups.ensures.faults c.in_ok-given.ensures.faults
+    let faults = all_faults c.args.by c.args.field c.args.rows.now c.in_ok-entries.entries.items (λ k. get_by (at_key k) c.in_ok-groups.groups) c.in_ok-entries.ensures.order c.in_ok-entries.ensures.same c.in_ok-groups.ensures.groups
+    c.new-faults.result.items c.groups_of.new.faults.items _ c.new-faults.ensures.items c.in_ok-groups.ensures.faults c.in_ok-given.ensures.faults in
+    subst (λ all. IfOk c.new.result (λ a. a.faults ≡ all)) faults c.new.ensures.faults
