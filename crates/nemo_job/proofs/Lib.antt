@@ -14,6 +14,7 @@ pub mod Feeding
 pub mod FineBodies
 pub mod FineSites
 pub mod FirstFaults
+pub mod FirstNames
 pub mod FirstPlaces
 pub mod Giving
 pub mod Growing
@@ -26,9 +27,9 @@ pub mod Lookups
 pub mod LoopCopies
 pub mod NamedSinks
 pub mod Natural
-pub mod NewNames
 pub mod PathsApart
 pub mod Plain
+pub mod PutFirst
 pub mod Releasing
 pub mod ScopeFaces
 pub mod ScopeNames

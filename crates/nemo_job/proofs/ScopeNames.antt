@@ -2,13 +2,13 @@
 use Rattle.std.proofs.Common.{◌≡◌, ◌∙◌, ap, sym, refl, ℕ, ◌+◌, ◌<◌, List, [], ◌∷◌, ◌++◌, Bool, true, false, cond, length, map, take, zip, get_or, Option, Some, None}
 use Rattle.std.specs.Prelude.{option_map, slice_get, slice_index_or, unwrap_or}
 use Rattle.std.specs.List.{find}
-use Rattle.std.specs.Option.{is_some, option_flatten, option_or}
+use Rattle.std.specs.Option.{option_flatten, option_or}
 use Rattle.std.proofs.lemmas.List.{map_more}
 use Rattle.std.proofs.lemmas.List.Folds.{find-append}
 use Rattle.std.proofs.lemmas.Option.{unwrap_or-slice_get}
-use Rattle.std.proofs.lemmas.Slice.Eq.{bytes_eq-Decides}
 use Rattle.nemo_value.specs.Texts.{same_text}
-use Rattle.nemo_job.specs.NamesBound.{HasNames, first_of_name, ports_in}
+use Rattle.nemo_job.specs.ByName.{named_in}
+use Rattle.nemo_job.specs.NamesBound.{HasNames, first_of_name}
 use Rattle.nemo_job.specs.Unrolled.{Bound, Ports, bound, ports_of, source_of}
 use Rattle.nemo_job.specs.declared.names.Names.{Names}
 use Rattle.nemo_job.specs.declared.vertex.Ref.{Ref}
@@ -27,34 +27,11 @@ first_of_name-more q bs b =
     one true = refl
     one false = refl
 
-or_none : {X : Type 0} (o : Option X) → option_or o None ≡ o
-or_none None = refl
-or_none (Some x) = refl
-
-or_some : {X : Type 0} (o p : Option X) → is_some o ≡ true → option_or o p ≡ o
-or_some None p h = absurd (cc h)
-or_some (Some x) p h = refl
-
-no_some : {X : Type 0} (o : Option X) → is_some o ≡ false → o ≡ None
-no_some None h = refl
-no_some (Some x) h = absurd (cc h)
-
--- a name that is new
-pub put_new : (bs : List Bound) (name : List ℕ) (ports : Ports) (old new : Names) → HasNames bs old → is_some (ports_in old.ports name) ≡ false
-    → ((q : List ℕ) → ports_in new.ports q ≡ cond (same_text name q) (Some ports) (ports_in old.ports q)) → HasNames (bs ++ record { name = name; ports = ports } ∷ []) new
-put_new bs name ports old new has fresh put q = put q ∙ go (same_text name q) refl ∙ sym (first_of_name-more q bs (record { name = name; ports = ports }))
-  where
-    go : (t : Bool) → same_text name q ≡ t → cond t (Some ports) (ports_in old.ports q) ≡ option_or (first_of_name q bs) (cond t (Some ports) None)
-    go true e = sym (ap (λ o. option_or o (Some ports)) (sym (has q) ∙ ap (ports_in old.ports) (sym ((bytes_eq-Decides name q).0 e)) ∙ no_some (ports_in old.ports name) fresh))
-    go false e = has q ∙ sym (or_none (first_of_name q bs))
-
--- a name that is there
-pub put_again : (bs : List Bound) (name : List ℕ) (ports : Ports) (names : Names) → HasNames bs names → is_some (ports_in names.ports name) ≡ true → HasNames (bs ++ record { name = name; ports = ports } ∷ []) names
-put_again bs name ports names has known q = has q ∙ go (same_text name q) refl ∙ sym (first_of_name-more q bs (record { name = name; ports = ports }))
-  where
-    go : (t : Bool) → same_text name q ≡ t → first_of_name q bs ≡ option_or (first_of_name q bs) (cond t (Some ports) None)
-    go true e = sym (or_some (first_of_name q bs) (Some ports) (ap is_some (sym (has q) ∙ ap (ports_in names.ports) (sym ((bytes_eq-Decides name q).0 e))) ∙ known))
-    go false e = sym (or_none (first_of_name q bs))
+-- one name more in the map
+pub has_more : (q : List ℕ) (bs : List Bound) (name : List ℕ) (ports : Ports) (old : Names) (has : Option Ports) → HasNames bs old
+    → has ≡ option_or (named_in old.ports q) (cond (same_text name q) (Some ports) None) → has ≡ first_of_name q (bs ++ record { name = name; ports = ports } ∷ [])
+has_more q bs name ports old has all put =
+    put ∙ ap (λ o. option_or o (cond (same_text name q) (Some ports) None)) (all q) ∙ sym (first_of_name-more q bs (record { name = name; ports = ports }))
 
 pub ports_of-first : (q : List ℕ) (bs : List Bound) → ports_of q bs ≡ unwrap_or (first_of_name q bs) []
 ports_of-first q [] = refl
@@ -88,8 +65,8 @@ flatten_at ports i = one (slice_get ports i) ∙ unwrap_or-slice_get ports i Non
     one (Some p) = refl
 
 -- where a reference finds ports
-pub source_found : (bs : List Bound) (r : Ref) (names : Names) (ports : Ports) → HasNames bs names → ports_in names.ports r.name ≡ Some ports → source_of bs r ≡ slice_index_or ports r.port None
+pub source_found : (bs : List Bound) (r : Ref) (names : Names) (ports : Ports) → HasNames bs names → named_in names.ports r.name ≡ Some ports → source_of bs r ≡ slice_index_or ports r.port None
 source_found bs r names ports has at = ap (λ ps. slice_index_or ps r.port None) (ports_of-first r.name bs ∙ ap (λ o. unwrap_or o []) (sym (has r.name) ∙ at))
 
-pub source_none : (bs : List Bound) (r : Ref) (names : Names) → HasNames bs names → ports_in names.ports r.name ≡ None → source_of bs r ≡ None
+pub source_none : (bs : List Bound) (r : Ref) (names : Names) → HasNames bs names → named_in names.ports r.name ≡ None → source_of bs r ≡ None
 source_none bs r names has at = ap (λ ps. slice_index_or ps r.port None) (ports_of-first r.name bs ∙ ap (λ o. unwrap_or o []) (sym (has r.name) ∙ at))

@@ -1,35 +1,14 @@
 -- Names among the faces of a list.
-use Rattle.std.proofs.Common.{arith, ◌≡◌, ◌∙◌, refl, sym, ap, subst, ℕ, suc, ◌+◌, ◌≤◌, List, [], ◌∷◌, ◌++◌, Bool, true, false, ◌&&◌, ◌||◌, not, cond, length, Option, Some, None}
-use Rattle.std.proofs.lemmas.Slice.Eq.{bytes_eq-Decides}
+use Rattle.std.proofs.Common.{arith, ◌≡◌, ◌∙◌, refl, ap, subst, ℕ, suc, ◌+◌, ◌≤◌, List, [], ◌∷◌, ◌++◌, Bool, true, false, ◌&&◌, ◌||◌, not, cond, length, Option, Some}
 use Rattle.std.specs.List.{list_any}
-use Rattle.std.specs.Option.{option_or, is_some}
+use Rattle.std.specs.Option.{option_or}
 use Rattle.nemo_value.specs.Texts.{same_text}
 use Rattle.nemo_job.specs.Refusals.{face_named, has_name, has_port}
 use Rattle.nemo_job.specs.Sites.{Face}
 use Rattle.nemo_job.specs.Walks.{first_named, gives, is_before, is_from, named_at}
 use Rattle.nemo_job.specs.declared.scope.Named.{Named}
 
----- what a map is given name by name
-
-pub or_none : {X : Type 0} (o : Option X) → option_or o None ≡ o
-or_none None = refl
-or_none (Some x) = refl
-
-or_first : {X : Type 0} (o : Option X) (x : X) → is_some o ≡ false → Some x ≡ option_or o (Some x)
-or_first None x h = refl
-or_first (Some y) x h = absurd (cc h)
-
-same_name : (a b : List ℕ) → same_text a b ≡ true → a ≡ b
-same_name a b h = (bytes_eq-Decides a b).0 h
-
--- a name that wasn't there is put in
-pub put_fresh : (old : List ℕ → Option Named) (name q : List ℕ) (n : Named) → is_some (old name) ≡ false
-    → cond (same_text name q) (Some n) (old q) ≡ option_or (old q) (cond (same_text name q) (Some n) None)
-put_fresh old name q n h = go (same_text name q) refl
-  where
-    go : (b : Bool) → same_text name q ≡ b → cond b (Some n) (old q) ≡ option_or (old q) (cond b (Some n) None)
-    go true e = or_first (old q) n (ap (λ t. is_some (old t)) (sym (same_name name q e)) ∙ h)
-    go false e = sym (or_none (old q))
+---- the first of a name
 
 -- the first of a name among some and then others
 pub first_join : (q : List ℕ) (k : ℕ) (fs gs : List Face) → first_named q k (fs ++ gs) ≡ option_or (first_named q k fs) (first_named q (k + length fs) gs)

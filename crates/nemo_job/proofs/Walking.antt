@@ -2,16 +2,17 @@
 use Rattle.std.proofs.Common.{arith, ◌≡◌, ◌∙◌, refl, sym, ap, subst, ℕ, ◌+◌, ◌-◌, ◌^◌, ◌<◌, ◌≤◌, ◌==◌, ◌&&◌, ◌||◌, not, cond, min, nat_le, nat_lt, List, [], ◌∷◌, ◌++◌, Bool, true, false, length, map, take, drop, get_or, Option, Some, None, option_map, Result, Ok, Err, IfOk, length-take}
 use Rattle.std.proofs.lemmas.List.{append_assoc, drop_all, drop_more, length-append, length-map, take_more, take-append-drop}
 use Rattle.std.proofs.lemmas.List.Folds.{list_all-append}
-use Rattle.std.specs.BTreeMap.{BTreeMap}
 use Rattle.std.specs.List.{list_all, list_any}
 use Rattle.std.specs.Option.{option_or}
 use denote.Ref.{Bor}
+use Rattle.indexmap.specs.IndexMap.{IndexMap}
 use Rattle.nemo_value.specs.Names.{is_name}
 use Rattle.nemo_value.specs.Texts.{all_new}
 use Rattle.nemo_transform.specs.Soundness.{is_few}
+use Rattle.nemo_job.specs.ByName.{named_in}
 use Rattle.nemo_job.specs.Refusals.{coded, first_where, has_double, has_name, is_bad_loop, is_end, is_forward, is_good, is_known, is_later, is_misfed, is_next_known}
 use Rattle.nemo_job.specs.Sites.{Doing, Does, Loops, Face, Site, faces, port_face, sites, sites_after, standing, working}
-use Rattle.nemo_job.specs.Walks.{HasFaces, IsFirst, Walked, WalkedAt, at_place, fails, first_of, gives, is_before, is_from, is_known_in, named_in, note, nothing, outer, seen, walk, with_body, with_inner}
+use Rattle.nemo_job.specs.Walks.{HasFaces, IsFirst, Walked, WalkedAt, at_place, fails, first_of, gives, is_before, is_from, is_known_in, note, nothing, outer, seen, walk, with_body, with_inner}
 use Rattle.nemo_job.specs.declared.refusals.Found.{Found}
 use Rattle.nemo_job.specs.declared.scope.Named.{Named}
 use Rattle.nemo_job.specs.declared.site.Fails.{Fails}
@@ -20,7 +21,8 @@ use Rattle.nemo_job.specs.declared.vertex.Ref.{Ref}
 use Rattle.nemo_job.specs.declared.vertex.Work.{Work}
 use Rattle.nemo_job.specs.declared.vertex.Work.TheVariants.{Loop}
 use Rattle.nemo_job.proofs.Layers.{loop_works, vertex_stands}
-use Rattle.nemo_job.proofs.Scoping.{before_is, from_is, or_none, port_is}
+use Rattle.nemo_job.proofs.PutFirst.{or_none}
+use Rattle.nemo_job.proofs.Scoping.{before_is, from_is, port_is}
 
 ---- the sites of a list, vertex by vertex
 
@@ -117,20 +119,20 @@ good_at d depth (Does t) e = refl
 good_at d depth (Loops turns carry body next) e =
     ap (λ b. nat_le 1 turns && nat_le turns 64 && is_few (length carry) && length next == length carry && b && not (list_any (λ f. is_end f.transform) body)) (deep d depth e)
 
-known_is : (scope : BTreeMap (Bor (List ℕ)) Named) (fs : List Face) (rs : List Ref) → HasFaces fs scope → list_all (is_known_in scope) rs ≡ list_all (is_known fs) rs
+known_is : {S : Type 0} (scope : IndexMap (Bor (List ℕ)) Named S) (fs : List Face) (rs : List Ref) → HasFaces fs scope → list_all (is_known_in scope) rs ≡ list_all (is_known fs) rs
 known_is scope fs rs has = λ k. list_all (λ r. one r k) rs
   where
     one : (r : Ref) → is_known_in scope r ≡ is_known fs r
     one r = ap (gives r.port) (has r.name) ∙ port_is r.name r.port 0 fs
 
-later_is : (scope : BTreeMap (Bor (List ℕ)) Named) (n : ℕ) (s : Site) → HasFaces (s.before ++ s.from) scope → length s.before ≡ n
+later_is : {S : Type 0} (scope : IndexMap (Bor (List ℕ)) Named S) (n : ℕ) (s : Site) → HasFaces (s.before ++ s.from) scope → length s.before ≡ n
     → list_any (λ r. is_from n (named_in scope r.name)) s.inputs ≡ is_forward s
 later_is scope n s has e = λ k. list_any (λ r. one r k) s.inputs
   where
     one : (r : Ref) → is_from n (named_in scope r.name) ≡ is_later s r
     one r = ap (is_from n) (has r.name) ∙ from_is r.name s.before s.from n e
 
-pub fails_are : (scope : BTreeMap (Bor (List ℕ)) Named) (carry : List (List ℕ)) (d depth i : ℕ) (vs : List JobVertex) (v : JobVertex)
+pub fails_are : {S : Type 0} (scope : IndexMap (Bor (List ℕ)) Named S) (carry : List (List ℕ)) (d depth i : ℕ) (vs : List JobVertex) (v : JobVertex)
     → HasFaces (seen carry vs) scope → min d 3 ≡ depth → i < length vs → v ≡ get_or vs i v
     → with_body (working v.work).doing (outer scope (length carry + i) depth v) ≡ fails (site_at carry d i vs v)
 fails_are scope carry d depth i vs v has e l is =
@@ -167,7 +169,7 @@ walked_more s ss rs fs f g h name same a b = record {
 }
 
 -- a loop and its body
-pub loop_walked : (scope : BTreeMap (Bor (List ℕ)) Named) (work : Work) (turns : ℕ) (carry : List (List ℕ)) (body : List JobVertex) (next : List Ref)
+pub loop_walked : {S : Type 0} (scope : IndexMap (Bor (List ℕ)) Named S) (work : Work) (turns : ℕ) (carry : List (List ℕ)) (body : List JobVertex) (next : List Ref)
     (depth around : ℕ) (o inner : Fails) (f start end : Found)
     → work ≡ Loop turns carry body next → HasFaces (seen carry body) scope → inner ≡ with_inner (all_new [] carry) (list_all (is_known_in scope) next) o
     → start ≡ note inner f → around ≡ min depth 2 + 1

@@ -1,3 +1,4 @@
+pub mod ByName
 pub mod ByPlace
 pub mod Chain
 pub mod ChainRows

@@ -1,20 +1,13 @@
 -- The names of a scope as a map, and the copies so far as a vector.
 use Rattle.std.specs.Prelude.{◌≡◌, ◌≤◌, ℕ, List, length, map, Option, option_map}
-use Rattle.std.specs.BTreeMap.{BTreeMap, get_by}
-use Rattle.std.specs.Cmp.Lexicographic.{slice_cmp}
 use Rattle.std.specs.List.{find}
-use Rattle.std.specs.Ordering.{nat_cmp}
-use denote.Ref.{Bor}
 use Rattle.nemo_value.specs.Texts.{same_text}
+use Rattle.nemo_job.specs.ByName.{named_in}
 use Rattle.nemo_job.specs.Nodes.{copy_of}
 use Rattle.nemo_job.specs.Unrolled.{Bound, Fed, Ports, Scope}
 use Rattle.nemo_job.specs.Unrolled as unrolled
 use Rattle.nemo_job.specs.declared.copies.Copies.{Copies}
 use Rattle.nemo_job.specs.declared.names.Names.{Names}
-
--- what a map by names has for this one
-abbrev pub ports_in : BTreeMap (Bor (List ℕ)) Ports → List ℕ → Option Ports
-ports_in ports name = get_by (λ k. slice_cmp nat_cmp name k.now) ports
 
 -- the ports of the first of a name, where there is one
 abbrev pub first_of_name : List ℕ → List Bound → Option Ports
@@ -22,7 +15,7 @@ first_of_name name bs = option_map (λ b. b.ports) (find (λ b. same_text b.name
 
 -- the map has the ports of the first of each name
 abbrev pub HasNames : List Bound → Names → Type 0
-HasNames bs names = (q : List ℕ) → ports_in names.ports q ≡ first_of_name q bs
+HasNames bs names = (q : List ℕ) → named_in names.ports q ≡ first_of_name q bs
 
 abbrev pub copies_of : Copies → unrolled.Copies
 copies_of c = record { made = map copy_of c.nodes.items; next = c.next }

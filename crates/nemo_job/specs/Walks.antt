@@ -1,13 +1,12 @@
 -- What a walk over the sites of a job notes, and how names are looked up on it.
 use Rattle.std.specs.Prelude.{◌≡◌, ℕ, ◌+◌, ◌-◌, ◌^◌, ◌&&◌, ◌||◌, min, nat_le, nat_lt, Bool, true, false, not, if◌then◌else◌, List, [], ◌∷◌, ◌++◌, length, map, Option, Some, None, option_map}
-use Rattle.std.specs.BTreeMap.{BTreeMap, get_by}
-use Rattle.std.specs.Cmp.Lexicographic.{slice_cmp}
 use Rattle.std.specs.List.{list_all, list_any}
 use Rattle.std.specs.Option.{option_or}
-use Rattle.std.specs.Ordering.{nat_cmp}
 use denote.Ref.{Bor}
+use Rattle.indexmap.specs.IndexMap.{IndexMap}
 use Rattle.nemo_value.specs.Names.{is_name}
 use Rattle.nemo_value.specs.Texts.{same_text, all_new}
+use Rattle.nemo_job.specs.ByName.{named_in}
 use Rattle.nemo_job.specs.Refusals.{Refusal, found, gives_none, is_bad_loop, is_double, is_forward, is_good, is_misfed, is_next_known, has_ports, names_unknown}
 use Rattle.nemo_job.specs.Sites.{Doing, Does, Loops, Face, Site, faces, port_face, standing, working}
 use Rattle.nemo_job.specs.declared.refusals.Found.{Found}
@@ -18,10 +17,6 @@ use Rattle.nemo_job.specs.declared.vertex.Ref.{Ref}
 
 ---- names
 
--- what a map by names has for this one
-abbrev pub named_in : BTreeMap (Bor (List ℕ)) Named → List ℕ → Option Named
-named_in scope name = get_by (λ k. slice_cmp nat_cmp name k.now) scope
-
 abbrev pub named_at : ℕ → Face → Named
 named_at i f = record { position = i; ports = f.ports; is_sink = gives_none f.transform }
 
@@ -31,7 +26,7 @@ first_named name i [] = None
 first_named name i (f ∷ fs) = if same_text f.name name then Some (named_at i f) else first_named name (i + 1) fs
 
 -- the map has the first of each name
-abbrev pub HasFaces : List Face → BTreeMap (Bor (List ℕ)) Named → Type 0
+abbrev pub HasFaces : {S : Type 0} → List Face → IndexMap (Bor (List ℕ)) Named S → Type 0
 HasFaces fs scope = (q : List ℕ) → named_in scope q ≡ first_named q 0 fs
 
 -- what the list of a body, or of the job, has for references
@@ -51,10 +46,10 @@ abbrev pub is_from : ℕ → Option Named → Bool
 is_from i (Some n) = nat_le i n.position
 is_from i None = false
 
-abbrev pub is_known_in : BTreeMap (Bor (List ℕ)) Named → Ref → Bool
+abbrev pub is_known_in : {S : Type 0} → IndexMap (Bor (List ℕ)) Named S → Ref → Bool
 is_known_in scope r = gives r.port (named_in scope r.name)
 
-abbrev pub is_any_from : BTreeMap (Bor (List ℕ)) Named → ℕ → List Ref → Bool
+abbrev pub is_any_from : {S : Type 0} → IndexMap (Bor (List ℕ)) Named S → ℕ → List Ref → Bool
 is_any_from scope i rs = list_any (λ r. is_from i (named_in scope r.name)) rs
 
 ---- one site
@@ -64,7 +59,7 @@ abbrev pub fails : Site → Fails
 fails s = record { double = is_double s; unknown = names_unknown s; forward = is_forward s; misfed = is_misfed s; bad_loop = is_bad_loop s }
 
 -- what fails at a vertex by the map of its list
-abbrev pub outer : BTreeMap (Bor (List ℕ)) Named → ℕ → ℕ → JobVertex → Fails
+abbrev pub outer : {S : Type 0} → IndexMap (Bor (List ℕ)) Named S → ℕ → ℕ → JobVertex → Fails
 outer scope i depth v = record {
   double = is_before i (named_in scope v.name);
   unknown = not (list_all (is_known_in scope) v.inputs);

@@ -2,12 +2,13 @@ ghost use Rattle.std.specs.Prelude.{◌≡◌, [], IfOk};
 ghost use Rattle.std.specs.List.{list_all};
 ghost use Rattle.nemo_value.specs.Texts.{all_new};
 ghost use Rattle.nemo_job.specs.Chain as spec;
+ghost use Rattle.nemo_job.specs.Walks.{HasFaces, seen};
 
+use crate::scope::{Scope, is_taken, scope_of};
 use crate::vertex::{JobVertex, Ref, Work};
 use nemo_transform::Transform;
 use nemo_value::{Expr, Name, NoMemory};
 use std::alloc::Global;
-use std::collections::BTreeSet;
 
 /// The most vertices of a chain.
 const MAX_VERTICES: usize = 512;
@@ -105,11 +106,18 @@ fn are_linked(name: &Name, vertices: &[JobVertex]) -> bool
 fn names_differ(alloc: Global, vertices: &[JobVertex]) -> Result<bool, NoMemory>
     ensures { IfOk result (λ differ. differ ≡ all_new [] (spec.names_of vertices.now)) }
 {
-    let mut seen: BTreeSet<&str> = BTreeSet::new(alloc);
-    for v in vertices {
-        if !seen.insert(v.name.as_str())? {
-            return Ok(false);
+    let scope = scope_of(alloc, &[], vertices)?;
+    Ok(are_first(&scope, vertices))
+}
+
+/// Whether each is the first of its name.
+fn are_first(scope: &Scope<'_>, vertices: &[JobVertex]) -> bool
+    ensures { HasFaces (seen [] vertices.now) scope.now → result ≡ all_new [] (spec.names_of vertices.now) }
+{
+    for (position, v) in vertices.iter().enumerate() {
+        if is_taken(scope, &v.name, position) {
+            return false;
         }
     }
-    Ok(true)
+    true
 }

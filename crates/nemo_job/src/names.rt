@@ -4,14 +4,15 @@ ghost use Rattle.nemo_job.specs.Unrolled as spec;
 ghost use Rattle.nemo_job.specs.Unrolled.{Bound, source_of};
 
 use crate::vertex::Ref;
+use indexmap::IndexMap;
 use nemo_value::{List, Name, NoMemory};
 use std::alloc::Global;
-use std::collections::BTreeMap;
 
-/// The names that stand in a list so far, each with the copies that its ports stand for. Of two of a name the first stays.
+/// The names that stand in a list so far, in order of first sight, each with the copies that its ports stand for.
+/// Of two of a name the first stays.
 #[derive(Drop)]
 pub(crate) struct Names<'a> {
-    ports: BTreeMap<&'a str, List<Option<usize>>>,
+    ports: IndexMap<&'a str, List<Option<usize>>>,
 }
 
 impl<'a> Names<'a> {
@@ -19,7 +20,7 @@ impl<'a> Names<'a> {
         ensures { HasNames [] result }
     {
         Names {
-            ports: BTreeMap::new(alloc),
+            ports: IndexMap::new(alloc),
         }
     }
 
@@ -44,9 +45,7 @@ impl<'a> Names<'a> {
     pub(crate) fn bind(&mut self, name: &'a str, ports: List<Option<usize>>) -> Result<(), NoMemory>
         ensures { OnOk result ((bs : Sequence Bound) → HasNames bs self.old → HasNames (bs ++ record { name = name.now; ports = ports } ∷ []) self.new) }
     {
-        if !self.ports.contains_key(&name) {
-            self.ports.insert(name, ports)?;
-        }
+        self.ports.entry(name)?.or_insert(ports);
         Ok(())
     }
 
@@ -54,7 +53,7 @@ impl<'a> Names<'a> {
     pub(crate) fn sources(
         &self,
         alloc: Global,
-        refs: &'a [Ref],
+        refs: &[Ref],
     ) -> Result<List<Option<usize>>, NoMemory>
         ensures { IfOk result (λ ports. (bs : Sequence Bound) → HasNames bs self.now → ports ≡ map (source_of bs) refs.now) }
     {
@@ -66,11 +65,10 @@ impl<'a> Names<'a> {
     }
 
     /// The copy that a reference names.
-    fn source(&self, r: &'a Ref) -> Option<usize>
+    fn source(&self, r: &Ref) -> Option<usize>
         ensures { (bs : Sequence Bound) → HasNames bs self.now → result ≡ source_of bs r.now }
     {
-        let name = r.name.as_str();
-        match self.ports.get(&name) {
+        match self.ports.get(r.name.as_str()) {
             Some(ports) => ports.get(r.port as usize).copied().flatten(),
             None => None,
         }

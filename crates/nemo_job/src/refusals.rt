@@ -9,13 +9,12 @@ ghost use Rattle.nemo_job.specs.Walks as walks;
 ghost use Rattle.nemo_job.specs.Walks.{HasFaces, IsFirst, WalkedAt, at_place, seen, with_body};
 
 use crate::job::JobRefused;
-use crate::scope::{Named, scope_of};
+use crate::scope::{Scope, scope_of};
 use crate::site::{Fails, MAX_AROUND, loop_fails, outer_fails};
 use crate::vertex::{JobVertex, Work};
 use nemo_transform::Transform;
 use nemo_value::{Name, NoMemory};
 use std::alloc::Global;
-use std::collections::BTreeMap;
 
 const DOUBLE_NAME: u32 = 3;
 
@@ -118,11 +117,11 @@ fn walk_all(alloc: Global, vertices: &[JobVertex]) -> Result<Found, NoMemory>
 
 /// What is found after the vertices of a list and of the bodies in it.
 #[cycle(walk)]
-fn walk_list<'a>(
+fn walk_list(
     alloc: Global,
-    scope: &BTreeMap<&'a str, Named>,
-    carry: &'a [Name],
-    vertices: &'a [JobVertex],
+    scope: &Scope<'_>,
+    carry: &[Name],
+    vertices: &[JobVertex],
     depth: u32,
     found: Found,
 ) -> Result<Found, NoMemory>
@@ -159,7 +158,7 @@ fn walk_work(
             let carry = carry.as_slice();
             let body = body.as_slice();
             let scope = scope_of(alloc, carry, body)?;
-            let fails = loop_fails(alloc, &scope, carry, next.as_slice(), fails)?;
+            let fails = loop_fails(&scope, carry, next.as_slice(), fails);
             let around = depth.min(MAX_AROUND) + 1;
             walk_list(alloc, &scope, carry, body, around, found.note(fails))
         }

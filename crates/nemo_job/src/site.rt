@@ -1,18 +1,17 @@
-ghost use Rattle.std.specs.Prelude.{◌≡◌, [], true, map, IfOk};
+ghost use Rattle.std.specs.Prelude.{◌≡◌, List, [], true, map};
 ghost use Rattle.std.specs.List.{list_all, list_any};
 ghost use Rattle.nemo_transform.specs.Soundness as soundness;
 ghost use Rattle.nemo_value.specs.Names.{is_name};
 ghost use Rattle.nemo_value.specs.Texts.{all_new};
 ghost use Rattle.nemo_job.specs.Refusals as refusals;
 ghost use Rattle.nemo_job.specs.Sites.{faces, standing, working};
-ghost use Rattle.nemo_job.specs.Walks.{is_known_in, outer, with_inner};
+ghost use Rattle.nemo_job.specs.Walks.{HasFaces, is_known_in, outer, seen, with_inner};
+ghost use Rattle.nemo_job.specs.declared.vertex.JobVertex.{JobVertex};
 
-use crate::scope::{Named, are_known, is_any_from, is_taken};
+use crate::scope::{Scope, are_known, is_any_from, is_taken};
 use crate::vertex::{JobVertex, Ref, Work};
 use nemo_transform::{Transform, ports};
-use nemo_value::{Name, NoMemory};
-use std::alloc::Global;
-use std::collections::{BTreeMap, BTreeSet};
+use nemo_value::Name;
 
 /// The most turns of a loop.
 const MAX_TURNS: u32 = 64;
@@ -34,12 +33,7 @@ pub(crate) struct Fails {
 }
 
 /// What fails at a vertex at a place of its list.
-pub(crate) fn outer_fails<'a>(
-    scope: &BTreeMap<&'a str, Named>,
-    position: usize,
-    depth: u32,
-    v: &'a JobVertex,
-) -> Fails
+pub(crate) fn outer_fails(scope: &Scope<'_>, position: usize, depth: u32, v: &JobVertex) -> Fails
     ensures fails { result ≡ outer scope.now position depth v.now }
     ensures name { is_name v.now.name ≡ true }
 {
@@ -54,36 +48,28 @@ pub(crate) fn outer_fails<'a>(
 }
 
 /// What fails at a loop, also by the list of its body.
-pub(crate) fn loop_fails<'a>(
-    alloc: Global,
-    scope: &BTreeMap<&'a str, Named>,
-    carry: &'a [Name],
-    next: &'a [Ref],
-    outer: Fails,
-) -> Result<Fails, NoMemory>
-    ensures { IfOk result (λ f. f ≡ with_inner (all_new [] carry.now) (list_all (is_known_in scope.now) next.now) outer) }
+pub(crate) fn loop_fails(scope: &Scope<'_>, carry: &[Name], next: &[Ref], outer: Fails) -> Fails
+    ensures { (body : List JobVertex) → HasFaces (seen carry.now body) scope.now → result ≡ with_inner (all_new [] carry.now) (list_all (is_known_in scope.now) next.now) outer }
 {
-    let differ = names_differ(alloc, carry)?;
-    Ok(Fails {
-        double: outer.double || !differ,
+    Fails {
+        double: outer.double || !names_differ(scope, carry),
         unknown: outer.unknown || !are_known(scope, next),
         forward: outer.forward,
         misfed: outer.misfed,
         bad_loop: outer.bad_loop,
-    })
+    }
 }
 
-/// Whether no name comes twice.
-fn names_differ(alloc: Global, names: &[Name]) -> Result<bool, NoMemory>
-    ensures { IfOk result (λ differ. differ ≡ all_new [] names.now) }
+/// Whether no name comes twice: each is the first of its own.
+fn names_differ(scope: &Scope<'_>, carry: &[Name]) -> bool
+    ensures { (body : List JobVertex) → HasFaces (seen carry.now body) scope.now → result ≡ all_new [] carry.now }
 {
-    let mut seen: BTreeSet<&str> = BTreeSet::new(alloc);
-    for name in names {
-        if !seen.insert(name.as_str())? {
-            return Ok(false);
+    for (position, name) in carry.iter().enumerate() {
+        if is_taken(scope, name, position) {
+            return false;
         }
     }
-    Ok(true)
+    true
 }
 
 fn is_few(count: usize) -> bool
@@ -130,12 +116,7 @@ fn is_good(depth: u32, work: &Work) -> bool
 fn has_end(body: &[JobVertex]) -> bool
     ensures { result ≡ list_any (λ f. refusals.is_end f.transform) (faces (map standing body.now)) }
 {
-    for v in body {
-        if is_end(v) {
-            return true;
-        }
-    }
-    false
+    body.iter().any(is_end)
 }
 
 fn is_end(v: &JobVertex) -> bool

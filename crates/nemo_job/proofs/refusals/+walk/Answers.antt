@@ -25,8 +25,8 @@ pub walk_list-returns : goal.walk_list-returns
 walk_list-returns t c = λ d e.
     c.loop-place.invariant d e c.loop-place.found (walked_all c.args.carry.now d c.loop-place.place c.args.vertices.now c.loop-place.found c.loop-place-test.false)
 
-pub walk_work-returns-in_ok-fails-in-Loop : goal.walk_work-returns-in_ok-fails-in-Loop
-walk_work-returns-in_ok-fails-in-Loop t c =
+pub walk_work-returns-in_ok-scope-in-Loop : goal.walk_work-returns-in_ok-scope-in-Loop
+walk_work-returns-in_ok-scope-in-Loop t c =
     let carry = c.as_slice-carry.result.now in
     let body = c.as_slice-body.result.now in
     let next = c.as_slice.result.now in
@@ -37,6 +37,6 @@ walk_work-returns-in_ok-fails-in-Loop t c =
     let around : c.min-around.result + 1 ≡ min c.args.depth 2 + 1 = ap (λ n. n + 1) c.min-around.ensures in
     ok_more c.walk_list.result _ _
     (λ end w. loop_walked c.in_ok-scope-in-Loop.scope c.args.work.now c.in-Loop.turns carry body next
-    c.args.depth (c.min-around.result + 1) c.args.fails c.in_ok-fails-in-Loop.fails c.args.found c.note-in-Loop.result end
-    is c.in_ok-scope-in-Loop.ensures c.in_ok-fails-in-Loop.ensures c.note-in-Loop.ensures around w)
+    c.args.depth (c.min-around.result + 1) c.args.fails c.loop_fails-fails.result c.args.found c.note-in-Loop.result end
+    is c.in_ok-scope-in-Loop.ensures (c.loop_fails-fails.ensures body c.in_ok-scope-in-Loop.ensures) c.note-in-Loop.ensures around w)
     c.walk_list.ensures

@@ -1,16 +1,13 @@
-use Rattle.std.proofs.Common.{◌∙◌, sym, ap, cond, Some}
-use Rattle.std.proofs.lemmas.Map.Text.{btree_map_updates_str}
-use Rattle.std.specs.Option.{is_some}
-use Rattle.nemo_value.specs.Texts.{same_text}
-use Rattle.nemo_job.specs.Walks.{named_in}
-use Rattle.nemo_job.proofs.Scoping.{put_fresh}
+use Rattle.std.proofs.Common.{arith, ◌≡◌, unwrap_or}
+use Rattle.indexmap.specs.Entry.{map_with_value}
+use Rattle.nemo_job.specs.ByName.{named_in}
+use Rattle.nemo_job.proofs.PutFirst.{put_first}
 use Rattle.nemo_job.proofs.scope.add.Goals as goal
 
-pub returns-in_ok-insert : goal.returns-in_ok-insert
-returns-in_ok-insert c = λ q.
-    let name = c.args.name.now in
-    let text = c.as_str-text.result.now in
-    btree_map_updates_str text c.args.scope.now c.insert.new.self _ c.in_ok-insert.ensures.updates q
-    ∙ ap (λ n. cond (same_text n q) (Some c.args.first) (named_in c.args.scope.now q)) c.as_str-text.ensures.text
-    ∙ put_fresh (named_in c.args.scope.now) name q c.args.first
-    (ap (λ n. is_some (named_in c.args.scope.now n)) (sym c.as_str-text.ensures.text) ∙ sym c.contains_key.ensures ∙ c.if-not-contains_key.true)
+pub returns : goal.returns
+returns c = λ q.
+    let old = c.args.scope.now in
+    let text = c.as_str.result.now in
+    let had : c.or_insert.result.now ≡ unwrap_or (named_in old text) c.args.first = grind arith in
+    let put = put_first old (map_with_value c.in_ok-scope.field-0 c.or_insert.result.now) text c.args.first c.or_insert.result.now (c.in_ok-scope.ensures.update.0 c.or_insert.result.now) had q in
+    grind (arith, put)

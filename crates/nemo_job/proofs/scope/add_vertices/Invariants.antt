@@ -1,7 +1,8 @@
 use Rattle.std.proofs.Common.{◌≡◌, ℕ, ◌+◌, List, drop, map}
 use Rattle.std.specs.Option.{option_or}
 use Rattle.nemo_job.specs.Sites.{faces, standing}
-use Rattle.nemo_job.specs.Walks.{first_named, named_in}
+use Rattle.nemo_job.specs.ByName.{named_in}
+use Rattle.nemo_job.specs.Walks.{first_named}
 use Rattle.nemo_job.proofs.scope.add_vertices.Given as goal
 
 -- what the map has so far, and then what is left

@@ -2,7 +2,8 @@ use Rattle.std.proofs.Common.{rules, arith, ◌≡◌, ◌∙◌, sym, ap, ◌+�
 use Rattle.std.proofs.lemmas.List.{length-map}
 use Rattle.std.specs.Option.{option_or}
 use Rattle.nemo_job.specs.Sites.{faces, port_face, standing}
-use Rattle.nemo_job.specs.Walks.{first_named, named_in}
+use Rattle.nemo_job.specs.ByName.{named_in}
+use Rattle.nemo_job.specs.Walks.{first_named}
 use Rattle.nemo_job.proofs.Scoping.{first_join}
 use Rattle.nemo_job.proofs.scope.scope_of.Goals as goal
 
