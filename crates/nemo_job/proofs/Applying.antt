@@ -9,7 +9,7 @@ use Rattle.nemo_transform.specs.declared.transform.Transform.{Transform}
 use Rattle.nemo_transform.specs.declared.transform.Transform.TheVariants.{Source, Map, Filter, Emit, Words, Union, Reduce, Distinct, Join, SideJoin, Sink}
 use Rattle.nemo_transform.proofs.MapSteps.{rows_in-rows, no_fault-rows}
 use Rattle.nemo_job.specs.ByPlace.{ByPlace, first_fault}
-use Rattle.nemo_job.specs.Held.{answers_at}
+use Rattle.nemo_job.specs.Held.{answers_at, answers_on}
 
 -- rows alone have no fault
 pub no_first : (place : ℕ) (rows : List Row) (given : List Answer) → given ≡ map Ok rows → first_fault (map (arisen place) (own_faults given)) ≡ first_fault []
@@ -42,5 +42,8 @@ first_other Join ports apart = refl
 first_other SideJoin ports apart = refl
 first_other (Sink name) ports apart = refl
 
-pub other_answers : (vals : List ByPlace) (inputs : List ℕ) (t : Transform) (first second : List Row) → ((n : ℕ) → t ≢ Union n) → first ≡ (port (map (port vals) inputs) 0).rows → second ≡ (port (map (port vals) inputs) 1).rows → answers t first second ≡ answers_at vals (record { transform = t; inputs = inputs })
-other_answers vals inputs t first second apart f s = λ i. answers t ((f ∙ sym (first_other t (map (port vals) inputs) apart)) i) (s i)
+-- so their answers are those on the rows of the first and the second port
+pub answers_once : (vals : List ByPlace) (inputs others : List ℕ) (t : Transform) → ((n : ℕ) → t ≢ Union n) → inputs ≡ others → answers_on vals inputs t ≡ answers_at vals (record { transform = t; inputs = others })
+answers_once vals inputs others t apart is =
+    ap (λ l. answers_on vals l t) is
+    ∙ sym (ap (λ rows. answers t rows (second_rows (map (port vals) others))) (first_other t (map (port vals) others) apart))

@@ -45,6 +45,10 @@ lesser R (Some x) (Some y) = if is_lt (R y x) then Some y else Some x
 abbrev pub answers_at : List ByPlace → Placed → List Answer
 answers_at vals p = answers p.transform (first_rows p.transform (map (port vals) p.inputs)) (second_rows (map (port vals) p.inputs))
 
+-- the answers of a transform, which is no union, on the rows of its first and its second port
+abbrev pub answers_on : List ByPlace → List ℕ → Transform → List Answer
+answers_on vals inputs t = answers t (port (map (port vals) inputs) 0).rows (port (map (port vals) inputs) 1).rows
+
 -- what the vertex of a place gives on what the vertices gave
 abbrev pub value_at : List ByPlace → ℕ → Placed → ByPlace
 value_at vals place p = at place p.transform (map (port vals) p.inputs)

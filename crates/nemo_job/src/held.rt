@@ -1,14 +1,14 @@
-ghost use Rattle.std.specs.Prelude.{◌≡◌, ◌<◌, ◌≤◌, ℕ, List as Sequence, [], All, length, map, option_map, slice_get, Some, None, IfOk, OnOk, IsTrue};
+ghost use Rattle.std.specs.Prelude.{◌≡◌, ◌<◌, ◌≤◌, ℕ, List as Sequence, [], ◌∷◌, All, Option, length, map, option_map, slice_get, Some, None, IfOk, IfSome, OnOk, IsTrue};
 ghost use Rattle.std.specs.Cow.{cow_slice_items};
 ghost use Rattle.nemo_transform.specs.Brought.{port, all_rows, all_faults, arisen, blocking};
-ghost use Rattle.nemo_transform.specs.Gives.{is_filled, own_faults, rows_in};
+ghost use Rattle.nemo_transform.specs.Gives.{answers, is_filled, own_faults, rows_in};
 ghost use Rattle.nemo_transform.specs.Ports.{kinds_of};
 ghost use Rattle.nemo_transform.specs.Soundness.{is_sound};
 ghost use Rattle.nemo_job.specs.ByPlace.{ByPlace, first_fault, place_cmp};
-ghost use Rattle.nemo_job.specs.Held.{Feeds, IsReleased, answers_at, arisen_at, known, known_value, lesser, node_of, value_at};
+ghost use Rattle.nemo_job.specs.Held.{Feeds, IsReleased, answers_at, answers_on, arisen_at, known, known_value, lesser, node_of, value_at};
 
 use crate::copies::Node;
-use nemo_transform::{Fault, Transform, apply, ports};
+use nemo_transform::{Applied, Fault, Transform, apply, apply_owned, ports};
 use nemo_value::{Kind, List, NoMemory, Record, TryCopy};
 use std::alloc::Global;
 use std::borrow::CowSlice;
@@ -58,7 +58,7 @@ pub(crate) fn step<'a>(
     match node.transform {
         Transform::Sink { .. } => handed(alloc, place, inputs[0], last, held),
         _ => {
-            let given = given_at(alloc, place, node, held.as_slice())?;
+            let given = given_at(alloc, place, node, last, held)?;
             release(held, place, inputs, last);
             Ok(given)
         }
@@ -80,11 +80,20 @@ fn handed<'a>(
 {
     let first = copied(alloc, &held[input].first)?;
     let rows = if last[input] == Some(place) {
-        std::mem::replace(&mut held[input].rows, CowSlice::Borrowed(&[]))
+        taken(held, input)
     } else {
         CowSlice::Owned(List::from_slice(alloc, held[input].rows.as_slice())?.into_vec())
     };
     Ok(Held { rows, first })
+}
+
+/// The rows of an input, of which none are left there.
+fn taken<'a>(held: &mut Vec<Held<'a>>, input: usize) -> CowSlice<'a, Record>
+    requires { input < length held.old.items }
+    ensures rows { option_map (λ h. h.rows) (slice_get (map known held.old.items) input) ≡ Some (cow_slice_items result) }
+    ensures released { (last : Sequence (Option ℕ)) (place : ℕ) → slice_get last input ≡ Some (Some place) → IsReleased last place (map known held.old.items) (map known held.new.items) }
+{
+    std::mem::replace(&mut held[input].rows, CowSlice::Borrowed(&[]))
 }
 
 /// Lets the rows of some inputs go where the vertex of this place is the last that takes them.
@@ -105,22 +114,26 @@ fn given_at<'a>(
     alloc: Global,
     place: usize,
     node: &Node<'a>,
-    held: &[Held<'a>],
+    last: &[Option<usize>],
+    held: &mut Vec<Held<'a>>,
 ) -> Result<Held<'a>, NoMemory>
-    requires within { All (λ j. j < length held.now) node.now.inputs }
+    requires within { All (λ j. j < length held.old.items) node.now.inputs }
+    requires noted { length held.old.items ≤ length last.now }
     requires sound { IsTrue (is_sound node.now.transform.now) }
     requires ports { length node.now.inputs ≡ length (kinds_of node.now.transform.now) }
-    ensures { IfOk result (λ h. (vals : Sequence ByPlace) → Feeds vals (map known held.now) node.now.inputs → known h ≡ known_value (value_at vals place (node_of node.now))) }
+    ensures given { IfOk result (λ h. (vals : Sequence ByPlace) → Feeds vals (map known held.old.items) node.now.inputs → known h ≡ known_value (value_at vals place (node_of node.now))) }
+    ensures released { OnOk result (IsReleased last.now place (map known held.old.items) (map known held.new.items)) }
+    ensures size { OnOk result (length held.new.items ≡ length held.old.items) }
 {
     let inputs = node.inputs.as_slice();
-    let passed = passed_on(alloc, inputs, held)?;
-    if is_blocked(node.transform, inputs, held) {
+    let passed = passed_on(alloc, inputs, held.as_slice())?;
+    if is_blocked(node.transform, inputs, held.as_slice()) {
         return Ok(Held {
             rows: CowSlice::Borrowed(&[]),
             first: passed,
         });
     }
-    let (rows, own) = applied_at(alloc, place, node, held)?;
+    let (rows, own) = applied_at(alloc, place, node, last, held)?;
     Ok(Held {
         rows,
         first: earlier(passed, own),
@@ -132,24 +145,88 @@ fn applied_at<'a>(
     alloc: Global,
     place: usize,
     node: &Node<'a>,
-    held: &[Held<'a>],
+    last: &[Option<usize>],
+    held: &mut Vec<Held<'a>>,
 ) -> Result<(CowSlice<'a, Record>, Option<Located>), NoMemory>
-    requires within { All (λ j. j < length held.now) node.now.inputs }
+    requires within { All (λ j. j < length held.old.items) node.now.inputs }
+    requires noted { length held.old.items ≤ length last.now }
     requires sound { IsTrue (is_sound node.now.transform.now) }
-    ensures rows { IfOk result (λ given. (vals : Sequence ByPlace) → Feeds vals (map known held.now) node.now.inputs → cow_slice_items given.0 ≡ rows_in (answers_at vals (node_of node.now))) }
-    ensures first { IfOk result (λ given. (vals : Sequence ByPlace) → Feeds vals (map known held.now) node.now.inputs → option_map arisen_at given.1 ≡ first_fault (map (arisen place) (own_faults (answers_at vals (node_of node.now))))) }
+    ensures rows { IfOk result (λ given. (vals : Sequence ByPlace) → Feeds vals (map known held.old.items) node.now.inputs → cow_slice_items given.0 ≡ rows_in (answers_at vals (node_of node.now))) }
+    ensures first { IfOk result (λ given. (vals : Sequence ByPlace) → Feeds vals (map known held.old.items) node.now.inputs → option_map arisen_at given.1 ≡ first_fault (map (arisen place) (own_faults (answers_at vals (node_of node.now))))) }
+    ensures released { OnOk result (IsReleased last.now place (map known held.old.items) (map known held.new.items)) }
+    ensures size { OnOk result (length held.new.items ≡ length held.old.items) }
 {
     let inputs = node.inputs.as_slice();
     match node.transform {
         Transform::Source { rows } => Ok((CowSlice::Borrowed(rows.as_slice()), None)),
-        Transform::Union { .. } => Ok((CowSlice::Owned(joined(alloc, inputs, held)?), None)),
+        Transform::Union { .. } => {
+            let rows = joined(alloc, inputs, held.as_slice())?;
+            Ok((CowSlice::Owned(rows), None))
+        }
         transform => {
-            let first = rows_at(inputs, 0, held);
-            let second = rows_at(inputs, 1, held);
-            let applied = apply(alloc, transform, first, second)?;
+            let applied = applied_to(alloc, place, transform, inputs, last, held)?;
             let own = first_own(place, applied.faults);
             Ok((CowSlice::Owned(applied.rows.into_vec()), own))
         }
+    }
+}
+
+/// What a transform gives on the rows of its first and its second port. The rows of an only port are taken where no
+/// later vertex takes them.
+fn applied_to(
+    alloc: Global,
+    place: usize,
+    transform: &Transform,
+    inputs: &[usize],
+    last: &[Option<usize>],
+    held: &mut Vec<Held<'_>>,
+) -> Result<Applied, NoMemory>
+    requires within { All (λ j. j < length held.old.items) inputs.now }
+    requires noted { length held.old.items ≤ length last.now }
+    requires sound { IsTrue (is_sound transform.now) }
+    ensures rows { IfOk result (λ a. (vals : Sequence ByPlace) → Feeds vals (map known held.old.items) inputs.now → a.rows ≡ rows_in (answers_on vals inputs.now transform.now)) }
+    ensures faults { IfOk result (λ a. (vals : Sequence ByPlace) → Feeds vals (map known held.old.items) inputs.now → a.faults ≡ own_faults (answers_on vals inputs.now transform.now)) }
+    ensures released { OnOk result (IsReleased last.now place (map known held.old.items) (map known held.new.items)) }
+    ensures size { OnOk result (length held.new.items ≡ length held.old.items) }
+{
+    match own_input(place, inputs, last) {
+        Some(input) => applied_once(alloc, transform, taken(held, input)),
+        None => {
+            let held = held.as_slice();
+            apply(
+                alloc,
+                transform,
+                rows_at(inputs, 0, held),
+                rows_at(inputs, 1, held),
+            )
+        }
+    }
+}
+
+/// The only input of the vertex of a place, where no later vertex takes its rows.
+fn own_input(place: usize, inputs: &[usize], last: &[Option<usize>]) -> Option<usize>
+    requires { All (λ j. j < length last.now) inputs.now }
+    ensures { IfSome result (λ input. (inputs.now ≡ input ∷ []) × (slice_get last.now input ≡ Some (Some place))) }
+{
+    match inputs {
+        [input] if last[*input] == Some(place) => Some(*input),
+        _ => None,
+    }
+}
+
+/// What a transform gives on rows alone, which are let go.
+fn applied_once(
+    alloc: Global,
+    transform: &Transform,
+    rows: CowSlice<'_, Record>,
+) -> Result<Applied, NoMemory>
+    requires { IsTrue (is_sound transform.now) }
+    ensures rows { IfOk result (λ a. a.rows ≡ rows_in (answers transform.now (cow_slice_items rows.entry) [])) }
+    ensures faults { IfOk result (λ a. a.faults ≡ own_faults (answers transform.now (cow_slice_items rows.entry) [])) }
+{
+    match rows {
+        CowSlice::Owned(rows) => apply_owned(alloc, transform, List::from_vec(rows)),
+        CowSlice::Borrowed(rows) => apply(alloc, transform, rows, &[]),
     }
 }
 

@@ -1,7 +1,7 @@
-use Rattle.std.proofs.Common.{◌<◌, ◌∙◌, sym, ap, refl, subst, length, map, arith}
+use Rattle.std.proofs.Common.{◌<◌, ◌∙◌, sym, ap, subst, length, map, arith}
 use Rattle.std.specs.Prelude.{vec_items}
 use Rattle.nemo_job.specs.Held.{IsReleased, known}
-use Rattle.nemo_job.proofs.Releasing.{released_none, released_one, last_here}
+use Rattle.nemo_job.proofs.Releasing.{released_none, last_here}
 use Rattle.nemo_job.proofs.held.handed.Goals as goal
 use Rattle.nemo_job.proofs.held.handed.Goals.{then-eq, else-eq+in_ok-from_slice}
 
@@ -13,10 +13,8 @@ returns-clause-released c =
     let within : c.args.input < length last = omega (arith, c.requires.within, c.requires.noted) in
     elim c.if-eq.branch [
       | then-eq w ↦
-          let h = w.index_mut.result.now in
           subst (λ l. IsReleased last place (map known old) (map known l)) (sym (ap vec_items w.held-is))
-          (released_one last place c.args.input old h (record { rows = w.replace-rows.new.dest; first = h.first }) c.requires.within w.index_mut.ensures.value refl
-          (last_here last place c.args.input within (sym c.eq.ensures ∙ w.if-eq.true)))
+          (w.taken-rows.ensures.released last place (last_here last place c.args.input within (sym c.eq.ensures ∙ w.if-eq.true)))
       | else-eq+in_ok-from_slice w ↦
           subst (λ l. IsReleased last place (map known old) (map known l)) (sym (ap vec_items w.held-is)) (released_none last place (map known old))
     ]
