@@ -6,8 +6,8 @@ ghost use Rattle.nemo_transform.specs.Gives.{answers, rows_in};
 ghost use Rattle.nemo_transform.specs.Soundness.{is_sound};
 
 use nemo_ir::source_part;
-use nemo_transform::{Transform, apply};
-use nemo_value::{NoMemory, Record};
+use nemo_transform::{Transform, apply_owned};
+use nemo_value::{List, NoMemory, Record};
 use std::alloc::Global;
 
 /// The rows of a task after all these transforms, one after another. The first is a source, of which the task has its
@@ -50,7 +50,7 @@ fn apply_part(
         Transform::Source { rows: all } => source_part(alloc, all.as_slice(), task, tasks),
         Transform::Sink { .. } => Ok(rows),
         _ => {
-            let applied = apply(alloc, transform, rows.as_slice(), &[])?;
+            let applied = apply_owned(alloc, transform, List::from_vec(rows))?;
             Ok(applied.rows.into_vec())
         }
     }

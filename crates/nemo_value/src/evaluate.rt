@@ -1,5 +1,5 @@
 ghost use Rattle.std.specs.Prelude.{◌≡◌};
-ghost use Rattle.nemo_value.specs.Answers.{Gives};
+ghost use Rattle.nemo_value.specs.Answers.{Gives, Lends};
 ghost use Rattle.nemo_value.specs.Val.{val, on_fields, joining, whole};
 ghost use Rattle.nemo_value.specs.Val as spec;
 
@@ -9,6 +9,7 @@ use crate::memory::NoMemory;
 use crate::record::Record;
 use crate::try_copy::TryCopy;
 use std::alloc::Global;
+use std::borrow::Cow;
 
 /// Why an expression has no value: a fault of its own, or want of memory.
 #[derive(Clone, Copy, Debug, PartialEq, Eq)]
@@ -33,24 +34,34 @@ impl From<NoMemory> for EvalFault {
 pub fn eval(alloc: Global, expr: &Expr, row: &Record) -> Result<Field, EvalFault>
     ensures { Gives result (val expr.now row.now) }
 {
+    match value(alloc, expr, row)? {
+        Cow::Borrowed(field) => Ok(field.copy(alloc)?),
+        Cow::Owned(field) => Ok(field),
+    }
+}
+
+/// The value of an expression on a record, lent where it stands in one of the two, or its first fault.
+fn value<'a>(alloc: Global, expr: &'a Expr, row: &'a Record) -> Result<Cow<'a, Field>, EvalFault>
+    ensures { Lends result (val expr.now row.now) }
+{
     match expr {
         Expr::Get(place) => match row.get(*place) {
-            Some(field) => Ok(field.copy(alloc)?),
+            Some(field) => Ok(Cow::Borrowed(field)),
             None => Err(EvalFault::Fault(Kind::NoField)),
         },
-        Expr::Const(field) => Ok(field.copy(alloc)?),
+        Expr::Const(field) => Ok(Cow::Borrowed(field)),
         Expr::Pair(oper, a, b) => {
-            let x = eval(alloc, a.get(), row)?;
-            let y = eval(alloc, b.get(), row)?;
-            on_both(alloc, *oper, &x, &y)
+            let x = value(alloc, a.get(), row)?;
+            let y = value(alloc, b.get(), row)?;
+            Ok(Cow::Owned(on_both(alloc, *oper, &x, &y)?))
         }
-        Expr::If(test, a, b) => match eval(alloc, test.get(), row)? {
+        Expr::If(test, a, b) => match *value(alloc, test.get(), row)? {
             Field::Text(_) => Err(EvalFault::Fault(Kind::Typed)),
-            Field::Int(0) => eval(alloc, b.get(), row),
-            Field::Int(_) => eval(alloc, a.get(), row),
+            Field::Int(0) => value(alloc, b.get(), row),
+            Field::Int(_) => value(alloc, a.get(), row),
         },
-        Expr::Len(a) => match eval(alloc, a.get(), row)? {
-            Field::Text(text) => Ok(Field::Int(text.as_str().len() as i64)),
+        Expr::Len(a) => match &*value(alloc, a.get(), row)? {
+            Field::Text(text) => Ok(Cow::Owned(Field::Int(text.as_str().len() as i64))),
             Field::Int(_) => Err(EvalFault::Fault(Kind::Typed)),
         },
     }
