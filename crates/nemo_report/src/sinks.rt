@@ -7,6 +7,9 @@ use crate::lines::line_in;
 use nemo_value::{List, NoMemory, Record, SinkRows};
 use std::alloc::Global;
 
+/// Room for a text, in bytes, with which few texts have to grow often.
+const ROOM: usize = 65_536;
+
 /// Appends the first line of a sink: its name and the number of its rows.
 fn push_head(alloc: Global, out: &mut Vec<u8>, sink: &SinkRows) -> Result<(), NoMemory>
     ensures { OnOk result (out.new.items ≡ out.old.items ++ head_of sink.now) }
@@ -44,7 +47,7 @@ fn push_sink(alloc: Global, out: &mut Vec<u8>, sink: &SinkRows) -> Result<(), No
 pub fn sink_text(alloc: Global, sinks: &List<SinkRows>) -> Result<Vec<u8>, NoMemory>
     ensures { IfOk result (λ text. text.items ≡ sinks_text sinks.now) }
 {
-    let mut out = Vec::new(alloc);
+    let mut out = Vec::with_capacity(alloc, ROOM)?;
     for sink in sinks.as_slice() {
         push_sink(alloc, &mut out, sink)?;
     }

@@ -84,7 +84,7 @@ fn answer_eval(alloc: Global, value: Value) -> Reached
     ensures { FollowsFrom Command.Eval (view value) result.status result.log (cow_slice_items result.text) }
 {
     match job_of(alloc, value) {
-        Ok(job) => eval(alloc, &job),
+        Ok(job) => eval(alloc, job),
         Err(end) => refuse(alloc, end),
     }
 }
@@ -115,8 +115,8 @@ fn answer_solo(alloc: Global, value: Value) -> Reached
 }
 
 /// What a job leads to that is evaluated.
-fn eval(alloc: Global, job: &Job) -> Reached
-    ensures { Evaluates job.now result.status result.log (cow_slice_items result.text) }
+fn eval(alloc: Global, job: Job) -> Reached
+    ensures { Evaluates job result.status result.log (cow_slice_items result.text) }
 {
     match eval_text(alloc, job) {
         Ok(reached) => reached,
@@ -124,11 +124,14 @@ fn eval(alloc: Global, job: &Job) -> Reached
     }
 }
 
-/// The sinks of a job and the last line, or the first fault that reaches a sink.
-fn eval_text(alloc: Global, job: &Job) -> Result<Reached, NoMemory>
-    ensures { IfOk result (λ reached. Evaluates job.now reached.status reached.log (cow_slice_items reached.text)) }
+/// The sinks of a job and the last line, or the first fault that reaches a sink. The rows of its sources go before the
+/// text is made.
+fn eval_text(alloc: Global, job: Job) -> Result<Reached, NoMemory>
+    ensures { IfOk result (λ reached. Evaluates job reached.status reached.log (cow_slice_items reached.text)) }
 {
-    match eval_job(alloc, job) {
+    let end = eval_job(alloc, &job);
+    drop(job);
+    match end {
         Ok(sinks) => {
             let mut text = sink_text(alloc, &List::from_vec(sinks))?;
             text.extend_from_slice(b"done\n")?;
