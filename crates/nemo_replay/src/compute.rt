@@ -48,7 +48,6 @@ fn apply_part(
 {
     match transform {
         Transform::Source { rows: all } => source_part(alloc, all.as_slice(), task, tasks),
-        Transform::Sink { .. } => Ok(rows),
         _ => {
             let applied = apply_owned(alloc, transform, List::from_vec(rows))?;
             Ok(applied.rows.into_vec())

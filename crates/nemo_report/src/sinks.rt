@@ -7,7 +7,7 @@ use crate::lines::line_in;
 use nemo_value::{List, NoMemory, Record, SinkRows};
 use std::alloc::Global;
 
-/// Room for a text, in bytes, with which few texts have to grow often.
+/// The room that a text starts with, in bytes.
 const ROOM: usize = 65_536;
 
 /// Appends the first line of a sink: its name and the number of its rows.
