@@ -1,5 +1,5 @@
 -- Rows that all have a first field: what is given by the key list of that field alone.
-use Rattle.std.proofs.Common.{◌≡◌, ◌∙◌, refl, sym, ap, ℕ, suc, ◌+◌, ◌<◌, ◌==◌, arith, false, List, [], ◌∷◌, ◌++◌, cond, map, length, get_or, take, drop, Option, Some, Ordering, Result}
+use Rattle.std.proofs.Common.{◌≡◌, ◌∙◌, refl, ap, ℕ, suc, ◌+◌, ◌<◌, ◌==◌, arith, false, List, [], ◌∷◌, ◌++◌, cond, map, length, get_or, take, drop, Some, Ordering, Result}
 use Rattle.std.specs.Prelude.{◌||◌}
 use Rattle.std.proofs.lemmas.Bool.Decides.{nat_tests}
 use Rattle.std.specs.BTreeSet.{insert_key}

@@ -1,5 +1,5 @@
 -- Different ways to fold have different words.
-use Rattle.std.proofs.Common.{◌≡◌, ◌∙◌, ap, sym, refl, ℕ, List, [], ◌∷◌, ◌==◌, Option, Some, None}
+use Rattle.std.proofs.Common.{◌≡◌, ◌∙◌, ap, sym, refl, ℕ, List, [], ◌∷◌, ◌==◌, Some}
 use Rattle.std.specs.Prelude.{◌↔◌, if◌then◌else◌}
 use Rattle.nemo_transform.specs.Words.{folding_word}
 use Rattle.nemo_transform.specs.declared.transform.Folding.{Folding}

@@ -212,15 +212,23 @@ fn folded<'a>(fold: Fold<'a>, value: Option<&'a Field>) -> Result<Fold<'a>, Kind
     ensures known { known_or result ≡ folded_with (known fold.entry) (read (folding_of (known fold.entry)) (option_copied value.entry)) }
     ensures size { IfOk result (λ more. size more ≤ size fold.entry + 2 ^ 63) }
 {
-    match (fold, value) {
-        (Fold::Count(count), _) => Ok(Fold::Count(count + 1)),
-        (_, None) => Err(Kind::NoField),
-        (Fold::Sum(sum), Some(Field::Int(n))) => Ok(Fold::Sum(sum + i128::from(*n))),
-        (Fold::Sum(_), Some(Field::Text(_))) => Err(Kind::Typed),
-        (Fold::Min(None), Some(field)) => Ok(Fold::Min(Some(field))),
-        (Fold::Min(Some(best)), Some(field)) => Ok(Fold::Min(Some(lesser(best, field)))),
-        (Fold::Max(None), Some(field)) => Ok(Fold::Max(Some(field))),
-        (Fold::Max(Some(best)), Some(field)) => Ok(Fold::Max(Some(greater(best, field)))),
+    match fold {
+        Fold::Count(count) => Ok(Fold::Count(count + 1)),
+        Fold::Sum(sum) => match value {
+            Some(Field::Int(n)) => Ok(Fold::Sum(sum + i128::from(*n))),
+            Some(Field::Text(_)) => Err(Kind::Typed),
+            None => Err(Kind::NoField),
+        },
+        Fold::Min(best) => match (best, value) {
+            (Some(best), Some(field)) => Ok(Fold::Min(Some(lesser(best, field)))),
+            (None, Some(field)) => Ok(Fold::Min(Some(field))),
+            (_, None) => Err(Kind::NoField),
+        },
+        Fold::Max(best) => match (best, value) {
+            (Some(best), Some(field)) => Ok(Fold::Max(Some(greater(best, field)))),
+            (None, Some(field)) => Ok(Fold::Max(Some(field))),
+            (_, None) => Err(Kind::NoField),
+        },
     }
 }
 

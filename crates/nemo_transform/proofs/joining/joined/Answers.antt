@@ -5,7 +5,7 @@ use Rattle.nemo_value.specs.Ascending.{ascending}
 use Rattle.nemo_value.specs.Key.{first_key}
 use Rattle.nemo_transform.specs.FaultOrder.{fault_cmp}
 use Rattle.nemo_transform.specs.FirstField.{side_by_side}
-use Rattle.nemo_transform.specs.Gives.{fault_in, join, joined, own_faults, rows_in}
+use Rattle.nemo_transform.specs.Gives.{fault_in, joined, own_faults, rows_in}
 use Rattle.nemo_transform.proofs.JoinSteps.{faults_more, joined_by, rows_more}
 use Rattle.nemo_transform.proofs.joining.joined.Goals as goal
 
