@@ -51,7 +51,7 @@ module _ (flat : FlatForm) (dag : IrDag) (fine : IsFlat flat) (valid : Valid fla
   few_cuts : (v : ℕ) (node : Node) → slice_get all v ≡ Some node → length (cuts v) < node.parallelism
   few_cuts v node g =
       let h = vertex_at flat dag v node g in
-      let count : length (cuts v) + 1 ≡ h.vertex.parallelism = (fits v h.vertex h.there).count in
+      let count : suc (length (cuts v)) ≡ h.vertex.parallelism = fits v h.vertex h.there in
       let same : node.parallelism ≡ h.vertex.parallelism = ap (λ (m : Node). m.parallelism) h.is in
       omega arith
 
