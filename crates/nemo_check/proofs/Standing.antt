@@ -11,7 +11,7 @@ use Rattle.nemo_ir.specs.declared.dag.IrDag.{IrDag}
 use Rattle.nemo_ir.specs.declared.dag.IrVertex.{IrVertex}
 use Rattle.nemo_ir.specs.declared.flat.FlatVertex.{FlatVertex}
 use Rattle.nemo_ir.specs.declared.dag.IrEdge.{IrEdge}
-use Rattle.nemo_check.specs.Tables.{producer_at, ports_match}
+use Rattle.nemo_check.specs.Tables.{ports_match}
 
 both : (a b : Bool) → a ≡ true → b ≡ true → (a && b) ≡ true
 both true b h k = k
@@ -28,19 +28,10 @@ second_of false b h = absurd (cc h)
 is_equal : {a b : ℕ} → a ≡ b → (a == b) ≡ true
 is_equal {a = a} {b = b} h = elim (eqb_tells a b) [ inl p ↦ p.0 | inr p ↦ absurd (p.1 h) ]
 
-one_more : (e : IrEdge) (es : List IrEdge) (v port : ℕ) (here fits : Bool) → here ≡ (e.to == v) → fits ≡ (e.port == port) → producer_at (filter (λ o. o.to == v) es) port ≡ producer (edge_at es v port) → producer_at (cond here (e ∷ filter (λ o. o.to == v) es) (filter (λ o. o.to == v) es)) port ≡ producer (if here && fits then Some e else edge_at es v port)
-one_more e es v port true true h f ih = ap (λ b. if b then e.from else producer_at (filter (λ o. o.to == v) es) port) (sym f)
-one_more e es v port true false h f ih = ap (λ b. if b then e.from else producer_at (filter (λ o. o.to == v) es) port) (sym f) ∙ ih
-one_more e es v port false fits h f ih = ih
-
-pub producer_of : (es : List IrEdge) (v port : ℕ) → producer_at (filter (λ o. o.to == v) es) port ≡ producer (edge_at es v port)
-producer_of [] v port = refl
-producer_of (e ∷ es) v port = one_more e es v port (e.to == v) (e.port == port) refl refl (producer_of es v port)
-
 -- the Op behind a utility vertex
-pub behind : (es ins : List IrEdge) (ops : List ℕ) (v p r : ℕ) (u : IrVertex) → ins ≡ filter (λ e. e.to == v) es → p ≡ producer_at ins 0 → r ≡ slice_index_or ops p 0 → length ops ≡ v → is_utility u.kind ≡ true → r ≡ resolve_step es ops u
-behind es ins ops v p r u i f g n t =
-    g ∙ ap (λ q. slice_index_or ops q 0) (f ∙ ap (λ l. producer_at l 0) i ∙ producer_of es v 0 ∙ ap (λ w. producer (edge_at es w 0)) (sym n))
+pub behind : (es : List IrEdge) (ops : List ℕ) (v p r : ℕ) (u : IrVertex) → p ≡ producer (edge_at es v 0) → r ≡ slice_index_or ops p 0 → length ops ≡ v → is_utility u.kind ≡ true → r ≡ resolve_step es ops u
+behind es ops v p r u f g n t =
+    g ∙ ap (λ q. slice_index_or ops q 0) (f ∙ ap (λ w. producer (edge_at es w 0)) (sym n))
     ∙ ap (λ b. if b then slice_index_or ops (producer (edge_at es (length ops) 0)) 0 else length ops) (sym t)
 
 from_of : (o : Option IrEdge) → (feed_of o).from ≡ producer o
@@ -50,14 +41,11 @@ from_of None = refl
 ---- the Ops behind the ports, and those that stand for the inputs
 
 -- the Op behind a port
-behind_port : (dag : IrDag) (v port : ℕ) → resolve dag (feed_of (edge_at dag.edges v port)).from ≡ slice_index_or (resolved dag) (producer_at (filter (λ e. e.to == v) dag.edges) port) 0
-behind_port dag v port = ap (λ q. slice_index_or (resolved dag) q 0) (from_of (edge_at dag.edges v port) ∙ sym (producer_of dag.edges v port))
+behind_port : (dag : IrDag) (v port : ℕ) → resolve dag (feed_of (edge_at dag.edges v port)).from ≡ resolve dag (producer (edge_at dag.edges v port))
+behind_port dag v port = ap (resolve dag) (from_of (edge_at dag.edges v port))
 
 abbrev pub ops_behind : IrDag → ℕ → ℕ → List PortKind → List ℕ
 ops_behind dag v port ks = map (λ f. resolve dag f.from) (feeds_from dag.edges v port ks)
-
-abbrev pub matching : IrDag → ℕ → ℕ → List ℕ → Bool
-matching dag v port ys = ports_match (resolved dag) (filter (λ e. e.to == v) dag.edges) dag.rep port ys
 
 pub same_length : (dag : IrDag) (v port : ℕ) (ks : List PortKind) (ys : List ℕ) → ops_behind dag v port ks ≡ map (rep_of dag) ys → length ks ≡ length ys
 same_length dag v port [] [] h = refl
@@ -65,7 +53,7 @@ same_length dag v port [] (y ∷ ys) h = absurd (cc h)
 same_length dag v port (k ∷ ks) [] h = absurd (cc h)
 same_length dag v port (k ∷ ks) (y ∷ ys) h = ap suc (same_length dag v (port + 1) ks ys (cc h))
 
-pub to_match : (dag : IrDag) (v port : ℕ) (ks : List PortKind) (ys : List ℕ) → ops_behind dag v port ks ≡ map (rep_of dag) ys → matching dag v port ys ≡ true
+pub to_match : (dag : IrDag) (v port : ℕ) (ks : List PortKind) (ys : List ℕ) → ops_behind dag v port ks ≡ map (rep_of dag) ys → ports_match dag v port ys ≡ true
 to_match dag v port [] [] h = refl
 to_match dag v port [] (y ∷ ys) h = absurd (cc h)
 to_match dag v port (k ∷ ks) [] h = absurd (cc h)
@@ -73,7 +61,7 @@ to_match dag v port (k ∷ ks) (y ∷ ys) h =
     let first : resolve dag (feed_of (edge_at dag.edges v port)).from ≡ rep_of dag y = cc h in
     both _ _ (is_equal (sym (behind_port dag v port) ∙ first)) (to_match dag v (port + 1) ks ys (cc h))
 
-pub from_match : (dag : IrDag) (v port : ℕ) (ks : List PortKind) (ys : List ℕ) → length ks ≡ length ys → matching dag v port ys ≡ true → ops_behind dag v port ks ≡ map (rep_of dag) ys
+pub from_match : (dag : IrDag) (v port : ℕ) (ks : List PortKind) (ys : List ℕ) → length ks ≡ length ys → ports_match dag v port ys ≡ true → ops_behind dag v port ks ≡ map (rep_of dag) ys
 from_match dag v port [] [] n h = refl
 from_match dag v port [] (y ∷ ys) n h = absurd (cc n)
 from_match dag v port (k ∷ ks) [] n h = absurd (cc n)
@@ -96,10 +84,10 @@ node_at ts dag v = node_from ts dag.edges 0 v dag.vertices ∙ ap (λ j. option_
 pub differ : (dag : IrDag) (v : ℕ) (ks : List PortKind) (ys : List ℕ) (n m : ℕ) → n ≡ length ks → m ≡ length ys → n ≢ m → IsTrue false ↔ (ops_behind dag v 0 ks ≡ map (rep_of dag) ys)
 differ dag v ks ys n m e f d = (λ t. absurd (cc t), λ h. absurd (d (e ∙ same_length dag v 0 ks ys h ∙ sym f)))
 
-pub agree : (dag : IrDag) (v : ℕ) (ks : List PortKind) (ys given : List ℕ) (ins : List IrEdge) (ops : List ℕ) (b : Bool) (n m : ℕ) → ins ≡ filter (λ e. e.to == v) dag.edges → ops ≡ resolved dag → given ≡ ys
-    → b ≡ ports_match ops ins dag.rep 0 given → n ≡ length ks → m ≡ length ys → n ≡ m → IsTrue b ↔ (ops_behind dag v 0 ks ≡ map (rep_of dag) ys)
-agree dag v ks ys given ins ops b n m i o g h e f d =
-    let known : b ≡ matching dag v 0 ys = h ∙ (λ j. ports_match (o j) (i j) dag.rep 0 (g j)) in
+pub agree : (dag : IrDag) (v : ℕ) (ks : List PortKind) (ys given : List ℕ) (b : Bool) (n m : ℕ) → given ≡ ys → b ≡ ports_match dag v 0 given → n ≡ length ks → m ≡ length ys → n ≡ m
+    → IsTrue b ↔ (ops_behind dag v 0 ks ≡ map (rep_of dag) ys)
+agree dag v ks ys given b n m g h e f d =
+    let known : b ≡ ports_match dag v 0 ys = h ∙ ap (ports_match dag v 0) g in
     (λ t. from_match dag v 0 ks ys (sym e ∙ d ∙ f) (sym known ∙ t), λ s. known ∙ to_match dag v 0 ks ys s)
 
 -- whether a vertex stands for a flat vertex
