@@ -10,9 +10,8 @@ use Rattle.nemo_transform.specs.Soundness.{is_sound}
 use Rattle.nemo_transform.specs.declared.transform.Transform.{Transform}
 use Rattle.nemo_transform.specs.declared.transform.Transform.TheVariants.{Sink}
 use Rattle.nemo_job.specs.ByPlace.{ByPlace, Placed, first_fault}
-use Rattle.nemo_value.specs.Order.{record_cmp}
-use Rattle.nemo_value.specs.Sorting.{sorted}
 use Rattle.nemo_value.specs.declared.record.SinkRows.{SinkRows}
+pub use Rattle.nemo_job.specs.Sinks.{does_sink}
 use Rattle.nemo_job.specs.declared.held.Held.{Held}
 use Rattle.nemo_job.specs.declared.held.Located.{Located}
 use Rattle.nemo_job.specs.declared.copies.Node.{Node}
@@ -52,10 +51,6 @@ answers_on vals inputs t = answers t (port (map (port vals) inputs) 0).rows (por
 -- what the vertex of a place gives on what the vertices gave
 abbrev pub value_at : List ByPlace → ℕ → Placed → ByPlace
 value_at vals place p = at place p.transform (map (port vals) p.inputs)
-
-abbrev pub does_sink : Transform → Bool
-does_sink (Sink name) = true
-does_sink _ = false
 
 -- the vertex of a place takes none but vertices before it
 abbrev pub IsLower : List Placed → Type 0
@@ -98,15 +93,16 @@ pub record IsGiven (ps : List Placed) (vals : List ByPlace) (held : List Known) 
   pub size : length held ≡ length ps
   pub sinks : (k : ℕ) (p : Placed) → slice_get ps k ≡ Some p → does_sink p.transform ≡ true → slice_get held k ≡ Some (known_value (port vals k))
 
-abbrev pub sink_at : Transform → ByPlace → Option SinkRows
-sink_at (Sink name) f = Some (record { name = name; rows = sorted record_cmp f.rows })
-sink_at _ f = None
+-- a sink with its rows
+abbrev pub sink_at : Transform → List Row → Option SinkRows
+sink_at (Sink name) rows = Some (record { name = name; rows = rows })
+sink_at _ rows = None
 
--- the sinks with their rows in order, in list order
+-- the sinks, in list order, with their rows as they reach them
 abbrev pub sinks_given : List Placed → List ByPlace → List SinkRows
 sinks_given [] fs = []
 sinks_given (p ∷ ps) [] = []
-sinks_given (p ∷ ps) (f ∷ fs) = option_to_list (sink_at p.transform f) ++ sinks_given ps fs
+sinks_given (p ∷ ps) (f ∷ fs) = option_to_list (sink_at p.transform f.rows) ++ sinks_given ps fs
 
 -- the faults that reach them
 abbrev pub faults_given : List Placed → List ByPlace → List (Arisen ℕ)
