@@ -1,5 +1,5 @@
 -- What an evaluation holds of what its vertices gave.
-use Rattle.std.specs.Prelude.{◌≡◌, ◌≤◌, ◌<◌, ℕ, List, [], ◌∷◌, ◌++◌, length, map, slice_get, Option, Some, None, option_map, option_to_list, Bool, true, false, if◌then◌else◌}
+use Rattle.std.specs.Prelude.{◌≡◌, ◌≤◌, ◌<◌, ◌⊎◌, ℕ, List, [], ◌∷◌, ◌++◌, length, map, slice_get, Option, Some, None, option_map, option_to_list, Bool, true, false, if◌then◌else◌}
 use Rattle.std.specs.Cow.{cow_slice_items}
 use Rattle.std.specs.Ordering.{is_lt}
 use Rattle.std.specs.declared.cmp.Ordering.{Ordering}
@@ -62,12 +62,17 @@ pub record IsPlaced (ps : List Placed) : Type 0 where
   pub ports : (i : ℕ) (p : Placed) → slice_get ps i ≡ Some p → length p.inputs ≡ length (kinds_of p.transform)
   pub sound : (i : ℕ) (p : Placed) → slice_get ps i ≡ Some p → is_sound p.transform ≡ true
 
--- For each vertex that reaches a sink the last vertex that takes what it gives, and for a sink the number of all
--- vertices: what reaches a sink takes only what reaches a sink, and is not after the last that takes it.
+-- a vertex takes what the one of place i gives, and reaches a sink: that of place u
+abbrev pub IsTaken : List Placed → List (Option ℕ) → ℕ → ℕ → Type 0
+IsTaken ps last i u = (p : Placed) × (k : ℕ) × (v : ℕ) × (slice_get ps u ≡ Some p) × (slice_get p.inputs k ≡ Some i) × (slice_get last u ≡ Some (Some v))
+
+-- For each vertex that reaches a sink, and for no other, the last vertex that takes what it gives, and for a sink the
+-- number of all vertices: what reaches a sink takes only what reaches a sink, and is not after the last that takes it.
 pub record IsLast (ps : List Placed) (last : List (Option ℕ)) : Type 0 where
   pub size : length last ≡ length ps
   pub sinks : (i : ℕ) (p : Placed) → slice_get ps i ≡ Some p → does_sink p.transform ≡ true → slice_get last i ≡ Some (Some (length ps))
   pub inputs : (i : ℕ) (p : Placed) (k j u : ℕ) → slice_get ps i ≡ Some p → slice_get p.inputs k ≡ Some j → slice_get last i ≡ Some (Some u) → (w : ℕ) × (slice_get last j ≡ Some (Some w)) × (i ≤ w)
+  pub only : (i u : ℕ) (p : Placed) → slice_get ps i ≡ Some p → slice_get last i ≡ Some (Some u) → (does_sink p.transform ≡ true) ⊎ IsTaken ps last i u
 
 -- Before the vertex of a place, what each vertex that reaches a sink gave is held: its first fault, and its rows as
 -- long as they are taken.
