@@ -3,6 +3,7 @@ pub mod Choices
 pub mod Dags
 pub mod Ends
 pub mod Exprs
+pub mod Given
 pub mod Heads
 pub mod Parts
 pub mod Read

@@ -5,6 +5,7 @@ mod bundle;
 mod choices;
 mod dags;
 mod end;
+mod given;
 mod head;
 mod parts;
 mod read;
@@ -15,3 +16,4 @@ mod walk;
 
 pub use bundle::{Bundle, read_bundle, read_job};
 pub use end::BundleEnd;
+pub use given::Given;

@@ -1,0 +1,5 @@
+pub mod Depths
+pub mod Fitting
+pub mod Fronts
+pub mod Lengths
+pub mod Passing
