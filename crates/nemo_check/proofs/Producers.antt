@@ -2,7 +2,7 @@
 use Rattle.std.proofs.Common.{◌≡◌, ◌≢◌, ◌↔◌, IsTrue, subst, refl, ap, sym, ◌∙◌, ℕ, zero, suc, ◌+◌, ◌==◌, ◌&&◌, length, map, slice_get, slice_index_or, option_map, inl, inr, arith, Bool, true, false, List, [], ◌∷◌, filter, cond, if◌then◌else◌, Option, Some, None}
 use Rattle.std.proofs.lemmas.Bool.{eqb-true, true≢false}
 use Rattle.std.proofs.lemmas.Bool.Decides.{eqb_tells}
-use Rattle.nemo_transform.specs.Ports.{PortKind}
+use Rattle.nemo_transform.specs.declared.shape.PortKind.{PortKind}
 use Rattle.nemo_transform.specs.declared.transform.Transform.{Transform}
 use Rattle.nemo_ir.specs.Flat.{FlatForm, transform_of}
 use Rattle.nemo_ir.specs.Nodes.{deed_of, deed_or, edge_at, producer, feed_of, feeds_from, is_utility, node_of, nodes, nodes_from, rep_of, resolve, resolve_step, resolved}

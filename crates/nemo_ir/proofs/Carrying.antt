@@ -4,7 +4,9 @@ use Rattle.std.specs.List.{list_all}
 use Rattle.std.specs.Cmp.{second_so}
 use Rattle.std.proofs.lemmas.Option.{slice_get_within}
 use Rattle.nemo_transform.specs.Brought.{at}
-use Rattle.nemo_transform.specs.Ports.{Main, PortKind, kinds_of}
+use Rattle.nemo_transform.specs.Ports.{kinds_of}
+use Rattle.nemo_transform.specs.declared.shape.PortKind.{PortKind}
+use Rattle.nemo_transform.specs.declared.shape.PortKind.TheVariants.{Main}
 use Rattle.nemo_transform.specs.Tasks.{AllBrought, IsBrought, IsParted, at_task}
 use Rattle.nemo_ir.specs.Flat.{FlatForm, IsFlat, is_input}
 use Rattle.nemo_ir.specs.Nodes.{Deed, Feed, Node, Passes, deed_of, edge_at, feed_of, feeds_from, is_utility, kinds_in, nodes, origin, rep_of, resolve}
@@ -51,7 +53,7 @@ module _ (flat : FlatForm) (dag : IrDag) (fine : IsFlat flat) (valid : Valid fla
   few_cuts : (v : ℕ) (node : Node) → slice_get all v ≡ Some node → length (cuts v) < node.parallelism
   few_cuts v node g =
       let h = vertex_at flat dag v node g in
-      let count : length (cuts v) + 1 ≡ h.vertex.parallelism = (fits v h.vertex h.there).count in
+      let count : suc (length (cuts v)) ≡ h.vertex.parallelism = fits v h.vertex h.there in
       let same : node.parallelism ≡ h.vertex.parallelism = ap (λ (m : Node). m.parallelism) h.is in
       omega arith
 

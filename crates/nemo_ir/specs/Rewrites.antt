@@ -1,5 +1,5 @@
 -- What a valid DAG keeps of its flat job, however the keys are split among tasks.
-use Rattle.std.specs.Prelude.{◌≡◌, ◌<◌, ◌≤◌, ◌+◌, ℕ, List, length, map, slice_get, slice_index_or, Some}
+use Rattle.std.specs.Prelude.{◌≡◌, ◌<◌, ◌≤◌, ◌+◌, ℕ, suc, List, length, map, slice_get, slice_index_or, Some}
 use Rattle.std.specs.List.Sorted.{IsPermutation, IsSorted}
 use Rattle.std.specs.Ordering.{nat_cmp}
 use Rattle.nemo_value.specs.Members.{In, SameMembers}
@@ -19,9 +19,9 @@ pub record AreFitting (n : ℕ) (cuts : List ℕ) : Type 0 where
   pub within : (i c : ℕ) → slice_get cuts i ≡ Some c → c ≤ 256
   pub rising : IsSorted nat_cmp cuts
 
--- an assignment gives each vertex fitting cuts
+-- an assignment gives each vertex as many cuts as part its tasks
 abbrev pub IsAssignment : IrDag → (ℕ → List ℕ) → Type 0
-IsAssignment dag cuts = (v : ℕ) (u : IrVertex) → slice_get dag.vertices v ≡ Some u → AreFitting u.parallelism (cuts v)
+IsAssignment dag cuts = (v : ℕ) (u : IrVertex) → slice_get dag.vertices v ≡ Some u → suc (length (cuts v)) ≡ u.parallelism
 
 -- what the tasks of a vertex give
 abbrev pub tasks_at : FlatForm → IrDag → (ℕ → List ℕ) → ℕ → List ByNumber
@@ -39,7 +39,7 @@ pub record IsComputed (flat : FlatForm) (dag : IrDag) (cuts : ℕ → List ℕ) 
   pub faults : SameMembers (all_faults (tasks_at flat dag cuts (rep_of dag x))) (map (renamed (called dag)) (value flat x).faults)
   pub own : (a : Arisen ℕ) → In a (all_faults (tasks_at flat dag cuts (rep_of dag x))) → a.vertex ≡ called dag x → In a (value flat (called dag x)).faults
 
--- rewrite soundness: under all assignments every flat vertex is computed
+-- rewrite soundness: under all assignments, whatever the cuts are, every flat vertex is computed
 abbrev pub Computes : FlatForm → IrDag → Type 0
 Computes flat dag = (cuts : ℕ → List ℕ) → IsAssignment dag cuts → (x : ℕ) → x < length flat.vertices → IsComputed flat dag cuts x
 

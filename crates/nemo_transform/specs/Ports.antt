@@ -1,11 +1,9 @@
 -- The ports of a transform.
 use Rattle.std.specs.Prelude.{List, [], ◌∷◌, Bool, true, false, replicate}
+pub use Rattle.nemo_transform.specs.declared.shape.PortKind.{PortKind}
+pub use Rattle.nemo_transform.specs.declared.shape.PortKind.TheVariants.{Main, Keyed, Side}
 use Rattle.nemo_transform.specs.declared.transform.Transform.{Transform}
 use Rattle.nemo_transform.specs.declared.transform.Transform.TheVariants.{Source, Map, Filter, Emit, Words, Union, Reduce, Distinct, Join, SideJoin, Sink}
-
--- rows of a Main port may come in any split, those of a Keyed port meet by key, and those of a Side port are everywhere
-pub data PortKind : Type 0 where
-  Main Keyed Side : PortKind
 
 abbrev pub kinds_of : Transform → List PortKind
 kinds_of (Source rows) = []

@@ -13,7 +13,7 @@ use nemo_value::{List, NoMemory, Record};
 use std::alloc::Global;
 
 /// The rows that a transform gives, and its own faults by kind and record, each once.
-#[derive(Debug, Drop)]
+#[derive(Drop)]
 pub struct Applied {
     pub rows: List<Record>,
     pub faults: List<Fault>,

@@ -104,7 +104,13 @@ fn add_rows(
         }
         Transform::Emit { outs } => add_outputs(alloc, outs.as_slice(), row, given)?,
         Transform::Words { field } => add_field_words(alloc, row.get(*field), given)?,
-        _ => given.push(row.copy(alloc)?)?,
+        Transform::Source { .. }
+        | Transform::Union { .. }
+        | Transform::Reduce { .. }
+        | Transform::Distinct
+        | Transform::Join
+        | Transform::SideJoin
+        | Transform::Sink { .. } => given.push(row.copy(alloc)?)?,
     }
     Ok(())
 }
