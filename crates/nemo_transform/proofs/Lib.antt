@@ -1,6 +1,7 @@
 pub mod AnswerLaws
 pub mod ApartLists
 pub mod FaultOrders
+pub mod FirstFields
 pub mod FoldSteps
 pub mod GivenLaws
 pub mod GroupEntries
@@ -14,6 +15,7 @@ pub mod ReduceAnswers
 pub mod RowSteps
 pub mod Rows
 pub mod RowsByKey
+pub mod SameGiven
 pub mod TaskFaults
 pub mod TaskLaws
 pub mod WordPieces

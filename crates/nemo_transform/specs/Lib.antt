@@ -1,8 +1,10 @@
 pub mod Brought
 pub mod FaultOrder
+pub mod FirstField
 pub mod Folds
 pub mod Gives
 pub mod Groups
+pub mod Key
 pub mod Laws
 pub mod Passing
 pub mod Ports

@@ -8,7 +8,9 @@ ghost use Rattle.nemo_value.specs.Answers.{Gives};
 ghost use Rattle.nemo_value.specs.Order.{field_cmp};
 ghost use Rattle.nemo_value.specs.declared.field.Field.{Field};
 ghost use Rattle.nemo_transform.specs.Folds.{known, known_or, known_group, start_of, folding_of, folded_with, with_read, why, value_in, lesser, greater, size};
-ghost use Rattle.nemo_transform.specs.Gives.{answers, rows_in, fault_in, own_faults, read, with_key};
+ghost use Rattle.nemo_transform.specs.FirstField.{with_first};
+ghost use Rattle.nemo_transform.specs.Gives.{answers, keyless, rows_in, fault_in, own_faults, read};
+ghost use Rattle.nemo_transform.specs.Key.{first_key};
 ghost use Rattle.nemo_transform.specs.Groups.{group_of, fault_of, at_key, key_of, seen, answer_at};
 ghost use Rattle.nemo_transform.specs.declared.transform.Transform.TheVariants.{Reduce, Distinct};
 
@@ -64,8 +66,9 @@ fn groups_of<'a>(
     rows: &'a [Record],
     faults: &mut Vec<Fault>,
 ) -> Result<HashMap<&'a Field, Group<'a>>, NoMemory>
-    ensures groups { IfOk result (λ m. (k : Field) → option_map known_group (get_by (at_key k) m) ≡ group_of by field (with_key k rows.now)) }
+    ensures groups { IfOk result (λ m. (k : Field) → option_map known_group (get_by (at_key k) m) ≡ group_of by field (with_first k rows.now)) }
     ensures faults { OnOk result (faults.new.items ≡ faults.old.items ++ filter_map (fault_of by field) rows.now) }
+    ensures keyed { OnOk result (keyless first_key rows.now ≡ []) }
 {
     let empty = start(by);
     let mut groups: HashMap<&'a Field, Group<'a>> = HashMap::new(alloc);

@@ -1,11 +1,13 @@
 ghost use Rattle.std.specs.Prelude.{◌≡◌, ◌≤◌, ◌++◌, [], map, drop, length, IfOk, OnOk};
-ghost use Rattle.std.specs.List.{flat_map, filter_map};
+ghost use Rattle.std.specs.List.{filter_map};
 ghost use Rattle.std.specs.Option.{option_map_or};
 ghost use Rattle.std.specs.HashMap.{get_by};
 ghost use Rattle.std.specs.Ordering.{is_eq};
 ghost use Rattle.nemo_value.specs.Order.{field_cmp};
 ghost use Rattle.nemo_value.specs.declared.field.Field.{Field};
-ghost use Rattle.nemo_transform.specs.Gives.{joined, pair, with_key, rows_in, fault_in, own_faults, is_filled};
+ghost use Rattle.nemo_transform.specs.FirstField.{side_by_side, with_first};
+ghost use Rattle.nemo_transform.specs.Gives.{join, keyless, rows_in, fault_in, own_faults, is_filled};
+ghost use Rattle.nemo_transform.specs.Key.{first_key};
 
 use crate::applying::Applied;
 use crate::fault::{Fault, in_order};
@@ -15,8 +17,8 @@ use std::collections::HashMap;
 
 /// Of each left row the rows with the right rows of its key, in their order, and a fault where these are too wide.
 pub(crate) fn joined(alloc: Global, left: &[Record], right: &[Record]) -> Result<Applied, NoMemory>
-    ensures rows { IfOk result (λ a. a.rows ≡ rows_in (flat_map (joined right.now) left.now)) }
-    ensures faults { IfOk result (λ a. a.faults ≡ own_faults (flat_map (joined right.now) left.now)) }
+    ensures rows { IfOk result (λ a. a.rows ≡ rows_in (join first_key first_key left.now right.now)) }
+    ensures faults { IfOk result (λ a. a.faults ≡ own_faults (join first_key first_key left.now right.now)) }
 {
     let by_key = rows_by_key(alloc, right)?;
     let mut rows = List::new(alloc);
@@ -44,7 +46,8 @@ fn rows_by_key<'a>(
     alloc: Global,
     rows: &'a [Record],
 ) -> Result<HashMap<&'a Field, Vec<&'a Record>>, NoMemory>
-    ensures { IfOk result (λ m. (q : Field) → option_map_or (λ g. map (λ r. r.now) g.items) (get_by (λ k. is_eq (field_cmp q k.now)) m) [] ≡ with_key q rows.now) }
+    ensures rows { IfOk result (λ m. (q : Field) → option_map_or (λ g. map (λ r. r.now) g.items) (get_by (λ k. is_eq (field_cmp q k.now)) m) [] ≡ with_first q rows.now) }
+    ensures keyed { OnOk result (keyless first_key rows.now ≡ []) }
 {
     let mut by_key: HashMap<&'a Field, Vec<&'a Record>> = HashMap::new(alloc);
     for row in rows {
@@ -60,8 +63,8 @@ fn push_pairs(
     right: &[&Record],
     rows: &mut List<Record>,
 ) -> Result<bool, NoMemory>
-    ensures rows { IfOk result (λ wide. rows.new ≡ rows.old ++ rows_in (map (pair left.now) (map (λ r. r.now) right.now))) }
-    ensures wide { IfOk result (λ wide. wide ≡ is_filled (filter_map fault_in (map (pair left.now) (map (λ r. r.now) right.now)))) }
+    ensures rows { IfOk result (λ wide. rows.new ≡ rows.old ++ rows_in (map (side_by_side left.now) (map (λ r. r.now) right.now))) }
+    ensures wide { IfOk result (λ wide. wide ≡ is_filled (filter_map fault_in (map (side_by_side left.now) (map (λ r. r.now) right.now)))) }
 {
     let mut wide = false;
     for other in right {

@@ -1,9 +1,17 @@
 use Rattle.std.proofs.Common.{◌∙◌, ◌++◌, ◌∷◌, [], ap, sym, refl, append-nil, true, false, map, Some, None, Vec, Global}
-use Rattle.nemo_transform.specs.Gives.{pair}
+use Rattle.nemo_transform.specs.FirstField.{side_by_side}
+use Rattle.std.specs.List.{flat_map}
+use Rattle.nemo_transform.specs.Gives.{joined, own_faults, rows_in}
+use Rattle.nemo_transform.specs.Key.{first_key}
 use Rattle.nemo_transform.specs.declared.fault.Fault.{Fault}
 use Rattle.nemo_transform.proofs.JoinSteps.{faults_more, joined_by, wide, rows_more}
 use Rattle.nemo_transform.proofs.joining.joined.Goals.{then-branch+in_ok-copy+in_ok-push, else-branch}
 use Rattle.nemo_transform.proofs.joining.joined.Goals as goal
+
+pub loop-row-init : goal.loop-row-init
+loop-row-init c =
+    let given = ap (λ none. none ++ flat_map (joined first_key first_key c.args.right.now) c.args.left.now) c.in_ok-by_key.ensures.keyed in
+    record { rows = sym (ap rows_in given); faults = sym (ap own_faults given) }
 
 pub loop-row-preserved-in_default : goal.loop-row-preserved-in_default
 loop-row-preserved-in_default c =
@@ -12,7 +20,7 @@ loop-row-preserved-in_default c =
     let i = c.loop-row.row-index in
     let x = c.row-item.result in
     let k = c.key-key.result.now in
-    let answers = joined_by right x k None _ c.key-key.ensures c.in_default.ensures.value (c.in_ok-by_key.ensures k) in
+    let answers = joined_by right x k None _ c.in_ok-by_key.ensures.keyed c.key-key.ensures c.in_default.ensures.value (c.in_ok-by_key.ensures.rows k) in
     record {
       rows = rows_more right left i x c.loop-row-test.true c.row-item.is [] answers c.loop-row.rows _ _ (sym (append-nil c.loop-row.rows)) c.loop-row.invariant.rows;
       faults = faults_more right left i x c.loop-row-test.true c.row-item.is [] answers c.loop-row.faults.items _ _ false refl (sym (append-nil c.loop-row.faults.items)) c.loop-row.invariant.faults;
@@ -27,7 +35,7 @@ loop-row-preserved c =
     let k = c.key-key.result.now in
     let found = map (λ r. r.now) c.deref.result.now in
     let answers =
-    joined_by right x k (Some c.in-Some.others.now) _ c.key-key.ensures c.in-Some.ensures.value (c.in_ok-by_key.ensures k) ∙ ap (λ rs. map (pair x) (map (λ r. r.now) rs)) (sym c.deref.ensures.value)
+    joined_by right x k (Some c.in-Some.others.now) _ c.in_ok-by_key.ensures.keyed c.key-key.ensures c.in-Some.ensures.value (c.in_ok-by_key.ensures.rows k) ∙ ap (λ rs. map (side_by_side x) (map (λ r. r.now) rs)) (sym c.deref.ensures.value)
     in
     record {
       rows = rows_more right left i x c.loop-row-test.true c.row-item.is found answers c.loop-row.rows _ _ c.in_ok-push_pairs.ensures.rows c.loop-row.invariant.rows;
