@@ -21,7 +21,7 @@ use Rattle.nemo_value.proofs.Permuted.{apart, chosen, is, mapped, not_empty, thr
 use Rattle.nemo_value.proofs.RecordOrder.{field_strict, record_strict}
 use Rattle.nemo_value.proofs.Split.{split_flat}
 use Rattle.nemo_transform.specs.Gives.{Answer, Row, alone, answers, bad, emitted, fault_in, fault_without, first_of, folded, good, joined, keyless, number, of_key, read, row_in, row_of, rows_in, rows_or, summed, total, unless, where_so, words_in}
-use Rattle.nemo_transform.specs.Key.{first_key, key_by}
+use Rattle.nemo_value.specs.Key.{first_key, key_by}
 use Rattle.nemo_transform.specs.Laws.{MeetByKey, chained, is_source, meets, share}
 use Rattle.nemo_transform.specs.Ports.{Main, is_keyed, is_main, kinds_of}
 use Rattle.nemo_transform.specs.declared.transform.Folding.{Folding}

@@ -1,5 +1,7 @@
 -- Rows that all have a first field: what is given by the key list of that field alone.
-use Rattle.std.proofs.Common.{◌≡◌, ◌∙◌, refl, sym, ap, ℕ, suc, ◌+◌, ◌<◌, List, [], ◌∷◌, ◌++◌, cond, map, length, get_or, take, drop, Option, Some, Ordering, Result}
+use Rattle.std.proofs.Common.{◌≡◌, ◌∙◌, refl, ap, ℕ, suc, ◌+◌, ◌<◌, ◌==◌, arith, false, List, [], ◌∷◌, ◌++◌, cond, map, length, get_or, take, drop, Some, Ordering, Result}
+use Rattle.std.specs.Prelude.{◌||◌}
+use Rattle.std.proofs.lemmas.Bool.Decides.{nat_tests}
 use Rattle.std.specs.BTreeSet.{insert_key}
 use Rattle.std.specs.List.{cons_option, filter_map, flat_map, slice_get}
 use Rattle.std.specs.Ordering.{is_eq, match_ordering, ordering_then}
@@ -12,7 +14,7 @@ use Rattle.nemo_value.specs.declared.field.Field.{Field}
 use Rattle.nemo_value.proofs.JoinedLists.{flat_over_map, flat_same}
 use Rattle.nemo_transform.specs.FirstField.{firsts, has_first, key, side_by_side, with_first}
 use Rattle.nemo_transform.specs.Gives.{Answer, Row, by_key, fault_without, fitting, is_key, joined, keyless, keys, of_key, pair, pairs_at, unnamed, unnamed_from, with_key}
-use Rattle.nemo_transform.specs.Key.{first_key, key_by}
+use Rattle.nemo_value.specs.Key.{first_key, key_by}
 use Rattle.nemo_transform.proofs.Keeping.{take_item}
 
 abbrev pub single : Field → List Field
@@ -81,7 +83,9 @@ by_first reads gives rows h =
 
 all_stay : (n : ℕ) (fs : Row) → unnamed_from (suc n) first_key fs ≡ fs
 all_stay n [] = refl
-all_stay n (f ∷ fs) = ap (λ l. f ∷ l) (all_stay (suc n) fs)
+all_stay n (f ∷ fs) =
+    let later : (0 == suc n) ≡ false = grind (arith, nat_tests) in
+    ap (λ b. cond (b || false) (unnamed_from (suc (suc n)) first_key fs) (f ∷ unnamed_from (suc (suc n)) first_key fs)) later ∙ ap (λ l. f ∷ l) (all_stay (suc n) fs)
 
 first_unnamed : (r : Row) → unnamed first_key r ≡ drop 1 r
 first_unnamed [] = refl

@@ -16,7 +16,7 @@ use Rattle.nemo_value.proofs.AscendingLists.{Rises}
 use Rattle.nemo_transform.specs.Folds.{KnownGroup, known, known_group, folding_of, with_read, why, size, start_of}
 use Rattle.nemo_transform.specs.FirstField.{with_first}
 use Rattle.nemo_transform.specs.Gives.{Row, keyless, read, answers, rows_in, fault_in, own_faults}
-use Rattle.nemo_transform.specs.Key.{first_key}
+use Rattle.nemo_value.specs.Key.{first_key}
 use Rattle.nemo_transform.specs.Groups.{goods, read_at, made, group_of, fault_read, fault_of, at_key, key_of, seen, answer_at}
 use Rattle.nemo_transform.specs.FaultOrder.{fault_cmp}
 use Rattle.nemo_transform.specs.declared.transform.Transform.TheVariants.{Reduce}

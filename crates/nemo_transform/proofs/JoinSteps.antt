@@ -19,7 +19,7 @@ use Rattle.nemo_transform.specs.FaultOrder.{fault_cmp}
 use Rattle.nemo_transform.specs.FirstField.{side_by_side}
 use Rattle.nemo_transform.specs.Gives.{Row, Answer, fault_in, is_filled, joined, keyless, row_in, rows_in}
 use Rattle.nemo_transform.specs.FirstField.{with_first}
-use Rattle.nemo_transform.specs.Key.{first_key}
+use Rattle.nemo_value.specs.Key.{first_key}
 use Rattle.nemo_transform.specs.declared.fault.Fault.{Fault}
 use Rattle.nemo_transform.proofs.FaultOrders.{fault_strict}
 use Rattle.nemo_transform.proofs.FirstFields.{joined_is}

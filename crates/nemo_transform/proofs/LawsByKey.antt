@@ -18,7 +18,7 @@ use Rattle.nemo_value.proofs.Perm.{Perm, back, then, unmoved}
 use Rattle.nemo_value.proofs.Permuted.{alike, apart, both, chosen, is, mapped, passing, through}
 use Rattle.nemo_value.proofs.RecordOrder.{record_strict}
 use Rattle.nemo_value.proofs.Split.{split, split_flat}
-use Rattle.nemo_transform.specs.Key.{key_by}
+use Rattle.nemo_value.specs.Key.{key_by}
 use Rattle.nemo_transform.specs.Gives.{Answer, Row, by_key, fault_without, is_key, join, joined, keyless, keys, of_key, pair, pairs_at, with_key}
 use Rattle.nemo_transform.specs.Laws.{share}
 
@@ -58,7 +58,7 @@ module _ (names : List ℕ) where
   own k r e = ap (is_key k) e ∙ ap is_eq (tied_itself record_strict.total k)
 
   module _ (task : Row → ℕ) (rows : List Row) where
-    front_task : List Row → ℕ
+    abbrev front_task : List Row → ℕ
     front_task [] = 0
     front_task (r ∷ rs) = task r
 

@@ -3,6 +3,7 @@ pub mod ApartLists
 pub mod FaultOrders
 pub mod FirstFields
 pub mod FoldSteps
+pub mod FoldingWords
 pub mod GivenLaws
 pub mod GroupEntries
 pub mod GroupSteps

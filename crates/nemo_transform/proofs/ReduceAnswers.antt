@@ -16,7 +16,7 @@ use Rattle.nemo_transform.specs.FaultOrder.{fault_cmp}
 use Rattle.nemo_transform.specs.Folds.{value_in, number_in}
 use Rattle.nemo_transform.specs.FirstField.{firsts, has_first, key, with_first}
 use Rattle.nemo_transform.specs.Gives.{Row, Answer, fault, bad, total, is_filled, first_of, summed, folded, unless, keyless, of_key, answers, row_in, fault_in, rows_in, own_faults}
-use Rattle.nemo_transform.specs.Key.{first_key}
+use Rattle.nemo_value.specs.Key.{first_key}
 use Rattle.nemo_transform.specs.declared.transform.Folding.{Folding}
 use Rattle.nemo_transform.specs.declared.transform.Folding.TheVariants.{Sum, Min, Max, Count}
 use Rattle.nemo_transform.specs.declared.transform.Transform.TheVariants.{Reduce}

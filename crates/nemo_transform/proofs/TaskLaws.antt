@@ -123,7 +123,7 @@ module _ (name : ℕ → ℕ) (n : ℕ) where
   side_second tasks k ks (got ∷ (go ∷ gots)) (w ∷ []) b i = absurd b.1
   side_second tasks k ks (got ∷ (go ∷ gots)) (w ∷ (u ∷ ws)) b i = from_std (go i).rows u.rows (b.1.0.rows i)
 
-  module _ (tasks : ℕ → Row → ℕ) (x : ℕ) (some : 0 < n) where
+  module _ (tasks : ℕ → Row → ℕ) (x : ℕ) (some : 0 < n) (low : (p : ℕ) (r : Row) → tasks p r < n) where
     brought_at : (t : Transform) (gots : List (ℕ → Numbered)) (wholes : List Numbered) → AllBrought name tasks n (kinds_of t) gots wholes
         → SameGiven (flat_map (λ i. answers t (first_rows t (at_task gots i)) (second_rows (at_task gots i))) (below n)) (answers t (first_rows t wholes) (second_rows wholes))
         → IsParted name n (λ i. at (name x) t (at_task gots i)) (at x t wholes)
@@ -133,23 +133,23 @@ module _ (name : ℕ → ℕ) (n : ℕ) where
         (λ i. brought_blocks name n tasks i (kinds_of t) gots wholes b) (brought_passed name n some tasks (kinds_of t) gots wholes b) p
 
     -- a transform with one Keyed port
-    keyed_at : (t : Transform) (gots : List (ℕ → Numbered)) (wholes : List Numbered) → MeetByKey t (tasks 0) (tasks 1) → ((p : ℕ) (r : Row) → tasks p r < n) → meets t ≡ true → is_source t ≡ false
+    keyed_at : (t : Transform) (gots : List (ℕ → Numbered)) (wholes : List Numbered) → MeetByKey t (tasks 0) (tasks 1) → meets t ≡ true → is_source t ≡ false
         → AllBrought name tasks n (Keyed ∷ []) gots wholes
         → Perm (flat_map (λ i. answers t (port (at_task gots i) 0).rows []) (below n)) (answers t (port wholes 0).rows [])
-    keyed_at t gots wholes meet low k s b = shared_answers t n (tasks 0) (tasks 1) (λ i. (port (at_task gots i) 0).rows) (λ i. []) (port wholes 0).rows [] k s meet (low 0) (low 1) (keyed_first tasks [] gots wholes b) (λ i. none)
+    keyed_at t gots wholes meet k s b = shared_answers t n (tasks 0) (tasks 1) (λ i. (port (at_task gots i) 0).rows) (λ i. []) (port wholes 0).rows [] k s meet (low 0) (low 1) (keyed_first tasks [] gots wholes b) (λ i. none)
 
-    pub task_all : (t : Transform) → MeetByKey t (tasks 0) (tasks 1) → ((p : ℕ) (r : Row) → tasks p r < n) → (gots : List (ℕ → Numbered)) (wholes : List Numbered) → is_source t ≡ false → AllBrought name tasks n (kinds_of t) gots wholes
+    pub task_all : (t : Transform) → MeetByKey t (tasks 0) (tasks 1) → (gots : List (ℕ → Numbered)) (wholes : List Numbered) → is_source t ≡ false → AllBrought name tasks n (kinds_of t) gots wholes
         → IsParted name n (λ i. at (name x) t (at_task gots i)) (at x t wholes)
-    task_all (Source rows) meet low gots wholes s b = cc
-    task_all (Map out) meet low gots wholes s b = task_main x (Map out) gots wholes refl refl (brought_parted tasks (Main ∷ []) gots wholes refl b)
-    task_all (Filter c) meet low gots wholes s b = task_main x (Filter c) gots wholes refl refl (brought_parted tasks (Main ∷ []) gots wholes refl b)
-    task_all (Emit outs) meet low gots wholes s b = task_main x (Emit outs) gots wholes refl refl (brought_parted tasks (Main ∷ []) gots wholes refl b)
-    task_all (Words field) meet low gots wholes s b = task_main x (Words field) gots wholes refl refl (brought_parted tasks (Main ∷ []) gots wholes refl b)
-    task_all (Union ports) meet low gots wholes s b = task_main x (Union ports) gots wholes refl (main_all ports) (brought_parted tasks (replicate ports Main) gots wholes (main_all ports) b)
-    task_all (Sink name) meet low gots wholes s b = task_main x (Sink name) gots wholes refl refl (brought_parted tasks (Main ∷ []) gots wholes refl b)
-    task_all (Reduce by field) meet low gots wholes s b = brought_at (Reduce by field) gots wholes b (given_perm (keyed_at (Reduce by field) gots wholes meet low refl refl b))
-    task_all Distinct meet low gots wholes s b = brought_at Distinct gots wholes b (given_perm (keyed_at Distinct gots wholes meet low refl refl b))
-    task_all Join meet low gots wholes s b = brought_at Join gots wholes b
+    task_all (Source rows) meet gots wholes s b = cc
+    task_all (Map out) meet gots wholes s b = task_main x (Map out) gots wholes refl refl (brought_parted tasks (Main ∷ []) gots wholes refl b)
+    task_all (Filter c) meet gots wholes s b = task_main x (Filter c) gots wholes refl refl (brought_parted tasks (Main ∷ []) gots wholes refl b)
+    task_all (Emit outs) meet gots wholes s b = task_main x (Emit outs) gots wholes refl refl (brought_parted tasks (Main ∷ []) gots wholes refl b)
+    task_all (Words field) meet gots wholes s b = task_main x (Words field) gots wholes refl refl (brought_parted tasks (Main ∷ []) gots wholes refl b)
+    task_all (Union ports) meet gots wholes s b = task_main x (Union ports) gots wholes refl (main_all ports) (brought_parted tasks (replicate ports Main) gots wholes (main_all ports) b)
+    task_all (Sink name) meet gots wholes s b = task_main x (Sink name) gots wholes refl refl (brought_parted tasks (Main ∷ []) gots wholes refl b)
+    task_all (Reduce by field) meet gots wholes s b = brought_at (Reduce by field) gots wholes b (given_perm (keyed_at (Reduce by field) gots wholes meet refl refl b))
+    task_all Distinct meet gots wholes s b = brought_at Distinct gots wholes b (given_perm (keyed_at Distinct gots wholes meet refl refl b))
+    task_all Join meet gots wholes s b = brought_at Join gots wholes b
         (given_perm (shared_answers Join n (tasks 0) (tasks 1) (λ i. (port (at_task gots i) 0).rows) (λ i. second_rows (at_task gots i)) (port wholes 0).rows (second_rows wholes) refl refl meet (low 0) (low 1) (keyed_first tasks (Keyed ∷ []) gots wholes b) (keyed_second tasks Keyed [] gots wholes b)))
-    task_all SideJoin meet low gots wholes s b = brought_at SideJoin gots wholes b
+    task_all SideJoin meet gots wholes s b = brought_at SideJoin gots wholes b
         (side_answers SideJoin n (λ i. (port (at_task gots i) 0).rows) (λ i. second_rows (at_task gots i)) (port wholes 0).rows (second_rows wholes) some refl refl (main_first tasks (Side ∷ []) gots wholes b) (side_second tasks Main [] gots wholes b))

@@ -3,7 +3,7 @@ use Rattle.std.specs.Prelude.{ℕ, suc, ℤ, pos, ◌+ℤ◌, ◌==◌, List, []
 use Rattle.std.specs.List.{flat_map, filter_map, list_any}
 use Rattle.std.specs.Ordering.{is_eq}
 use Rattle.nemo_value.specs.Ascending.{ascending}
-use Rattle.nemo_transform.specs.Key.{key_by, first_key}
+use Rattle.nemo_value.specs.Key.{key_by, first_key}
 use Rattle.nemo_value.specs.Order.{field_cmp, record_cmp}
 use Rattle.nemo_value.specs.Val.{val, fits_i64, is_zero}
 use Rattle.nemo_value.specs.declared.expr.Expr.{Expr}

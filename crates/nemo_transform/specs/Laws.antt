@@ -5,7 +5,7 @@ use Rattle.nemo_value.specs.Ascending.{ascending}
 use Rattle.nemo_value.specs.declared.field.Field.{Field}
 use Rattle.nemo_transform.specs.FaultOrder.{fault_cmp}
 use Rattle.nemo_transform.specs.Gives.{Row}
-use Rattle.nemo_transform.specs.Key.{key_by}
+use Rattle.nemo_value.specs.Key.{key_by}
 use Rattle.nemo_transform.specs.Ports.{kinds_of, is_keyed, key_list}
 use Rattle.nemo_transform.specs.declared.fault.Fault.{Fault}
 use Rattle.nemo_transform.specs.declared.transform.Transform.{Transform}

@@ -4,10 +4,10 @@ pub mod FirstField
 pub mod Folds
 pub mod Gives
 pub mod Groups
-pub mod Key
 pub mod Laws
 pub mod Passing
 pub mod Ports
 pub mod RowByRow
 pub mod Soundness
 pub mod Tasks
+pub mod Words

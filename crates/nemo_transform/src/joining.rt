@@ -5,12 +5,12 @@ ghost use Rattle.std.specs.HashMap.{get_by};
 ghost use Rattle.std.specs.Ordering.{is_eq};
 ghost use Rattle.nemo_value.specs.Order.{field_cmp};
 ghost use Rattle.nemo_value.specs.declared.field.Field.{Field};
-ghost use Rattle.nemo_transform.specs.FirstField.{side_by_side, with_first};
+ghost use Rattle.nemo_transform.specs.FirstField.{side_by_side, wide_once, with_first};
 ghost use Rattle.nemo_transform.specs.Gives.{join, keyless, rows_in, fault_in, own_faults, is_filled};
-ghost use Rattle.nemo_transform.specs.Key.{first_key};
+ghost use Rattle.nemo_value.specs.Key.{first_key};
 
 use crate::applying::Applied;
-use crate::fault::{Fault, in_order};
+use crate::fault::Fault;
 use nemo_value::{Field, Kind, List, MAX_FIELDS, NoMemory, Record, TryCopy};
 use std::alloc::Global;
 use std::collections::HashMap;
@@ -28,17 +28,9 @@ pub(crate) fn joined(alloc: Global, left: &[Record], right: &[Record]) -> Result
         let Some(others) = by_key.get(&key) else {
             continue;
         };
-        if push_pairs(alloc, row, others, &mut rows)? {
-            faults.push(Fault {
-                kind: Kind::Wide,
-                rec: row.copy(alloc)?,
-            })?;
-        }
+        push_joined(alloc, row, others, &mut rows, &mut faults)?;
     }
-    Ok(Applied {
-        rows,
-        faults: in_order(alloc, faults)?,
-    })
+    Applied::new(alloc, rows, faults)
 }
 
 /// For each key the rows that have it, in their order.
@@ -54,6 +46,26 @@ fn rows_by_key<'a>(
         by_key.entry(row.key())?.or_default().push(row)?;
     }
     Ok(by_key)
+}
+
+/// Puts the rows of a left row with some right ones behind others, and one fault where some of these are too wide.
+fn push_joined(
+    alloc: Global,
+    left: &Record,
+    right: &[&Record],
+    rows: &mut List<Record>,
+    faults: &mut Vec<Fault>,
+) -> Result<(), NoMemory>
+    ensures rows { OnOk result (rows.new ≡ rows.old ++ rows_in (map (side_by_side left.now) (map (λ r. r.now) right.now))) }
+    ensures faults { OnOk result (faults.new.items ≡ faults.old.items ++ wide_once left.now (map (side_by_side left.now) (map (λ r. r.now) right.now))) }
+{
+    if push_pairs(alloc, left, right, rows)? {
+        faults.push(Fault {
+            kind: Kind::Wide,
+            rec: left.copy(alloc)?,
+        })?;
+    }
+    Ok(())
 }
 
 /// Puts the rows of a left row with some right ones behind others; whether some of these are too wide.
@@ -85,12 +97,9 @@ fn paired(alloc: Global, left: &Record, right: &Record) -> Result<Record, NoMemo
     let own = left.fields();
     let more = right.fields();
     let mut fields = List::with_capacity(alloc, own.len() + more.len() - 1)?;
-    push_copies(alloc, &mut fields, own.as_slice())?;
-    push_copies(alloc, &mut fields, &more.as_slice()[1..])?;
-    match Record::new(fields) {
-        Ok(row) => Ok(row),
-        Err(_) => unreachable!(),
-    }
+    push_copies(alloc, &mut fields, own)?;
+    push_copies(alloc, &mut fields, &more[1..])?;
+    Ok(Record::of(fields))
 }
 
 /// Puts copies of some fields behind others.

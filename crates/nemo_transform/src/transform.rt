@@ -11,6 +11,41 @@ pub enum Folding {
     Count,
 }
 
+impl Folding {
+    ghost use Rattle.std.specs.Prelude.{◌≡◌, ◌↔◌, Some};
+    ghost use Rattle.nemo_transform.specs.Words.{folding_word};
+
+    /// The word by which a bundle names the way to fold.
+    pub fn word(self) -> &'static str
+        ensures { result.now ≡ folding_word self }
+    {
+        match self {
+            Folding::Sum => "sum",
+            Folding::Min => "min",
+            Folding::Max => "max",
+            Folding::Count => "count",
+        }
+    }
+
+    /// The way to fold that a bundle names by the word, if there is one.
+    #[tactic(auto, using(crate::proofs::FoldingWords::word_found))]
+    pub fn from_word(word: &str) -> Option<Folding>
+        ensures { (by : Folding) → (result ≡ Some by) ↔ (word.now ≡ folding_word by) }
+    {
+        if word == Folding::Sum.word() {
+            Some(Folding::Sum)
+        } else if word == Folding::Min.word() {
+            Some(Folding::Min)
+        } else if word == Folding::Max.word() {
+            Some(Folding::Max)
+        } else if word == Folding::Count.word() {
+            Some(Folding::Count)
+        } else {
+            None
+        }
+    }
+}
+
 /// An output of an emit: a row of the values of `out` where `cond` isn't 0.
 #[derive(Drop)]
 pub struct Output {

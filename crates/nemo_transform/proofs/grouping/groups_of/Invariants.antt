@@ -1,10 +1,10 @@
-use Rattle.std.proofs.Common.{◌≡◌, ◌++◌, ◌*◌, take}
+use Rattle.std.proofs.Common.{◌≡◌, ◌++◌, ◌*◌, [], take}
 use Rattle.std.specs.HashMap.{get_by}
 use Rattle.std.specs.List.{filter_map}
 use Rattle.nemo_value.specs.declared.field.Field.{Field}
 use Rattle.nemo_transform.specs.FirstField.{with_first}
 use Rattle.nemo_transform.specs.Gives.{keyless}
-use Rattle.nemo_transform.specs.Key.{first_key}
+use Rattle.nemo_value.specs.Key.{first_key}
 use Rattle.nemo_transform.specs.Groups.{at_key, fault_of}
 use Rattle.nemo_transform.proofs.GroupSteps.{Kept}
 use Rattle.nemo_transform.proofs.grouping.groups_of.Given as goal

@@ -3,7 +3,7 @@ use Rattle.std.specs.List.{flat_map, filter_map}
 use Rattle.nemo_value.specs.Ascending.{ascending}
 use Rattle.nemo_transform.specs.FaultOrder.{fault_cmp}
 use Rattle.nemo_transform.specs.Gives.{join, joined, rows_in, fault_in, own_faults}
-use Rattle.nemo_transform.specs.Key.{first_key}
+use Rattle.nemo_value.specs.Key.{first_key}
 use Rattle.nemo_transform.proofs.joining.joined.Given as goal
 
 -- what was given so far, in front of what the other left rows give

@@ -6,7 +6,7 @@ use Rattle.nemo_value.specs.Order.{field_cmp}
 use Rattle.nemo_value.specs.declared.field.Field.{Field}
 use Rattle.nemo_transform.specs.FirstField.{with_first}
 use Rattle.nemo_transform.specs.Gives.{keyless}
-use Rattle.nemo_transform.specs.Key.{first_key}
+use Rattle.nemo_value.specs.Key.{first_key}
 use Rattle.nemo_transform.proofs.joining.rows_by_key.Given as goal
 
 -- at each key the rows so far that have it
