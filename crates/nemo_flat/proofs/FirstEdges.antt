@@ -7,7 +7,7 @@ use Rattle.std.proofs.lemmas.List.Folds.{list_all-append}
 use Rattle.std.specs.Cmp.Derive.{both_true}
 use Rattle.std.specs.List.{list_all}
 use Rattle.nemo_base.specs.Numbered.{map_at}
-use Rattle.nemo_transform.specs.Ports.{PortKind}
+use Rattle.nemo_transform.specs.declared.shape.PortKind.{PortKind}
 use Rattle.nemo_ir.specs.Along.{below, counted}
 use Rattle.nemo_ir.specs.Flat.{FlatForm, transform_of}
 use Rattle.nemo_ir.specs.Nodes.{edge_at}

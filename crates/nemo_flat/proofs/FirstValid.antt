@@ -7,7 +7,9 @@ use Rattle.std.proofs.lemmas.Option.{slice_get-map, get_or_from_slice_get, slice
 use Rattle.std.specs.Cmp.{first_so, second_so}
 use Rattle.std.specs.Cmp.Derive.{both_true}
 use Rattle.std.specs.List.{count_by, list_all}
-use Rattle.nemo_transform.specs.Ports.{PortKind, Main, Keyed, Side, kinds_of}
+use Rattle.nemo_transform.specs.Ports.{kinds_of}
+use Rattle.nemo_transform.specs.declared.shape.PortKind.{PortKind}
+use Rattle.nemo_transform.specs.declared.shape.PortKind.TheVariants.{Main, Keyed, Side}
 use Rattle.nemo_ir.specs.Along.{all_at, below, counted, passes}
 use Rattle.nemo_ir.specs.Flat.{FlatForm, IsFlat, is_input}
 use Rattle.nemo_ir.specs.Nodes.{deed_or, edge_at, feed_of, feeds_from, kinds_in, node_of, nodes, rep_of, resolve}

@@ -6,11 +6,13 @@ use Rattle.nemo_base.specs.declared.annotation.Flow.TheVariants.{Pull}
 use Rattle.nemo_base.specs.declared.annotation.Keep.{Keep}
 use Rattle.nemo_base.specs.declared.annotation.Pattern.{Pattern}
 use Rattle.nemo_base.specs.declared.annotation.Pattern.TheVariants.{OneToOne, Hash, Broadcast}
-use Rattle.nemo_transform.specs.Ports.{PortKind, Main, Keyed, Side, kinds_of}
+use Rattle.nemo_transform.specs.Ports.{kinds_of}
+use Rattle.nemo_transform.specs.declared.shape.PortKind.{PortKind}
+use Rattle.nemo_transform.specs.declared.shape.PortKind.TheVariants.{Main, Keyed, Side}
 use Rattle.nemo_transform.specs.declared.transform.Transform.{Transform}
 use Rattle.nemo_ir.specs.Along.{below}
 use Rattle.nemo_ir.specs.Flat.{FlatForm, transform_of}
-use Rattle.nemo_ir.specs.Valid.{Holds, V1, V2, V3, V4, V5, V6}
+pub use Rattle.nemo_ir.specs.Valid.{IsFirst}
 use Rattle.nemo_ir.specs.declared.dag.IrDag.{IrDag}
 use Rattle.nemo_ir.specs.declared.dag.IrEdge.{IrEdge}
 use Rattle.nemo_ir.specs.declared.dag.IrVertex.{IrVertex}
@@ -56,12 +58,3 @@ first_dag flat = record {
   edges = flat_map (λ es. es) (map_at (edges_into flat) 0 flat.vertices);
   rep = below (length flat.vertices);
 }
-
--- the first six clauses, which a DAG meets before any pass
-pub record IsFirst (flat : FlatForm) (dag : IrDag) : Type 0 where
-  pub v1 : Holds flat dag V1
-  pub v2 : Holds flat dag V2
-  pub v3 : Holds flat dag V3
-  pub v4 : Holds flat dag V4
-  pub v5 : Holds flat dag V5
-  pub v6 : Holds flat dag V6

@@ -5,12 +5,12 @@ ghost use Rattle.nemo_flat.specs.FirstDag as spec;
 ghost use Rattle.nemo_base.specs.Numbered.{map_at};
 ghost use Rattle.nemo_ir.specs.Line.{IsLine};
 ghost use Rattle.nemo_ir.specs.Along.{below};
-ghost use Rattle.nemo_ir.specs.Valid.{Valid};
+ghost use Rattle.nemo_ir.specs.Valid.{IsFirst, Valid};
 ghost use Rattle.nemo_transform.specs.Ports.{kinds_of};
 
 use nemo_base::{Class, Flow, Keep, Pattern};
 use nemo_ir::{FlatJob, FlatVertex, IrDag, IrEdge, IrVertex, VertexKind};
-use nemo_transform::Transform;
+use nemo_transform::{PortKind, Transform};
 use nemo_value::{List, NoMemory};
 use std::alloc::Global;
 
@@ -18,7 +18,7 @@ use std::alloc::Global;
 /// the order of vertices and ports. It meets the first six clauses of a valid DAG, and that of a line is valid.
 pub fn first_dag(alloc: Global, flat: &FlatJob) -> Result<IrDag, NoMemory>
     ensures dag { IfOk result (λ dag. dag ≡ spec.first_dag flat.now) }
-    ensures rules { IfOk result (spec.IsFirst flat.now) }
+    ensures rules { IfOk result (IsFirst flat.now) }
     ensures valid { IsLine flat.now → IfOk result (Valid flat.now) }
 {
     let vertices = flat.vertices.as_slice();
@@ -110,10 +110,9 @@ fn edge_into(transform: Option<&Transform>, to: u32, port: u32, input: u32) -> I
 fn pattern_into(transform: &Transform, port: u32) -> Pattern
     ensures { result ≡ spec.pattern_into (slice_get (kinds_of transform.now) port) }
 {
-    match transform {
-        Transform::Reduce { .. } | Transform::Distinct if port == 0 => Pattern::Hash,
-        Transform::Join if port < 2 => Pattern::Hash,
-        Transform::SideJoin if port == 1 => Pattern::Broadcast,
-        _ => Pattern::OneToOne,
+    match transform.port(port) {
+        Some(PortKind::Main) | None => Pattern::OneToOne,
+        Some(PortKind::Keyed) => Pattern::Hash,
+        Some(PortKind::Side) => Pattern::Broadcast,
     }
 }

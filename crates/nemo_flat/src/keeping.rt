@@ -32,12 +32,9 @@ fn vertex_of(alloc: Global, node: &Node<'_>, numbers: &[u32]) -> Result<FlatVert
     requires path { length (string_bytes node.now.path) ≤ 65535 }
     ensures { IfOk result (λ x. x ≡ vertex_of numbers.now (copy_of node.now)) }
 {
-    let name = match Text::from_str(alloc, node.path.as_str())? {
-        Some(name) => name,
-        None => unreachable!(),
-    };
+    let path = node.path.clone()?;
     Ok(FlatVertex {
-        name,
+        name: Text::of(path),
         transform: node.number as u32,
         inputs: numbered(alloc, node.inputs.as_slice(), numbers)?,
     })

@@ -7,7 +7,8 @@ use Rattle.std.proofs.lemmas.List.Sums.{sum_by-cons}
 use Rattle.std.proofs.lemmas.List.{length-drop, take_all, drop-map, get_or-drop, length-map}
 use Rattle.nemo_transform.specs.Brought.{port, blocking}
 use Rattle.nemo_transform.specs.Gives.{is_filled}
-use Rattle.nemo_transform.specs.Ports.{Main, Keyed, Side, kinds_of, is_main}
+use Rattle.nemo_transform.specs.Ports.{kinds_of, is_main}
+use Rattle.nemo_transform.specs.declared.shape.PortKind.TheVariants.{Main, Keyed, Side}
 use Rattle.nemo_transform.specs.declared.transform.Transform.{Transform}
 use Rattle.nemo_transform.specs.declared.transform.Transform.TheVariants.{Source, Map, Filter, Emit, Words, Union, Reduce, Distinct, Join, SideJoin, Sink}
 use Rattle.nemo_job.specs.ByPlace.{ByPlace}

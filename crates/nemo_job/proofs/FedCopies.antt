@@ -3,7 +3,8 @@ use Rattle.std.proofs.Common.{◌≡◌, ◌∙◌, refl, sym, ap, subst, ℕ, z
 use Rattle.std.proofs.lemmas.Bool.{eqb-true}
 use Rattle.std.proofs.lemmas.List.{length-map, length-replicate}
 use Rattle.std.proofs.lemmas.Option.{slice_get_within}
-use Rattle.nemo_transform.specs.Ports.{Main, kinds_of}
+use Rattle.nemo_transform.specs.Ports.{kinds_of}
+use Rattle.nemo_transform.specs.declared.shape.PortKind.TheVariants.{Main}
 use Rattle.nemo_transform.specs.Soundness.{is_few, is_sound}
 use Rattle.nemo_transform.specs.declared.transform.Transform.{Transform}
 use Rattle.nemo_transform.specs.declared.transform.Transform.TheVariants.{Source, Map, Filter, Emit, Words, Union, Reduce, Distinct, Join, SideJoin, Sink}

@@ -4,7 +4,9 @@ use Rattle.std.proofs.Math.ListN.{get_or-map}
 use Rattle.std.proofs.lemmas.List.{map-append}
 use Rattle.nemo_transform.specs.Brought.{Arisen, Brought, all_faults, all_rows, arisen, at, blocking, brought_by, first_rows, nothing, port}
 use Rattle.nemo_transform.specs.Gives.{Answer, answers, rows_in, own_faults}
-use Rattle.nemo_transform.specs.Ports.{PortKind, Main, Keyed, Side, kinds_of}
+use Rattle.nemo_transform.specs.Ports.{kinds_of}
+use Rattle.nemo_transform.specs.declared.shape.PortKind.{PortKind}
+use Rattle.nemo_transform.specs.declared.shape.PortKind.TheVariants.{Main, Keyed, Side}
 use Rattle.nemo_transform.specs.declared.fault.Fault.{Fault}
 use Rattle.nemo_transform.specs.declared.transform.Transform.{Transform}
 use Rattle.nemo_transform.specs.declared.transform.Transform.TheVariants.{Union}

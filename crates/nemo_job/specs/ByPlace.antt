@@ -1,7 +1,8 @@
 -- What the copies of a job's vertices give, named by their places.
-use Rattle.std.specs.Prelude.{ℕ, List, [], ◌∷◌, ◌++◌, length, map, slice_get, Option}
+use Rattle.std.specs.Prelude.{ℕ, List, [], length, map, slice_get, Option}
 use Rattle.std.specs.Ordering.{nat_cmp, ordering_then}
 use Rattle.std.specs.declared.cmp.Ordering.{Ordering}
+use Rattle.nemo_value.specs.Along.{along}
 use Rattle.nemo_value.specs.Ascending.{ascending}
 use Rattle.nemo_value.specs.KindOrder.{kind_cmp}
 use Rattle.nemo_value.specs.Order.{record_cmp}
@@ -22,8 +23,7 @@ abbrev pub value_after : List ByPlace → Placed → ByPlace
 value_after done p = at (length done) p.transform (map (port done) p.inputs)
 
 abbrev pub values_from : List ByPlace → List Placed → List ByPlace
-values_from done [] = done
-values_from done (p ∷ ps) = values_from (done ++ value_after done p ∷ []) ps
+values_from = along value_after
 
 -- what each vertex gives
 abbrev pub values : List Placed → List ByPlace

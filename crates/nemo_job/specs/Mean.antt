@@ -1,5 +1,6 @@
 -- What each vertex of a job gives, on whole inputs.
 use Rattle.std.specs.Prelude.{ℕ, zero, suc, ◌+◌, List, [], ◌∷◌, ◌++◌, map, decimal, if◌then◌else◌}
+use Rattle.nemo_value.specs.Along.{along}
 use Rattle.nemo_value.specs.Texts.{same_text}
 use Rattle.nemo_transform.specs.Brought.{Brought, port, at}
 use Rattle.nemo_job.specs.declared.vertex.JobVertex.{JobVertex}
@@ -28,8 +29,7 @@ look es r = port (ports_at r.name es) r.port
 
 -- each vertex in list order, on the entries before it
 abbrev pub run : List (List Entry → Entry) → List Entry → List Entry
-run [] es = es
-run (v ∷ vs) es = run vs (es ++ v es ∷ [])
+run vs es = along (λ done v. v done) es vs
 
 -- the ports of a turn under their names
 abbrev pub carried : List ByPath → List (List ℕ) → List Entry

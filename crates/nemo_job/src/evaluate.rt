@@ -62,14 +62,12 @@ fn end_at(alloc: Global, nodes: &[Node<'_>], fault: Located) -> Result<JobEnd, N
     requires short { length (path_in (map copy_of nodes.now) fault.place) ≤ 65535 }
     ensures { IfOk result (λ end. end ≡ fault_end (record { vertex = path_in (map copy_of nodes.now) fault.place; kind = fault.kind; rec = fault.rec })) }
 {
-    match Text::from_str(alloc, nodes[fault.place].path.as_str())? {
-        Some(name) => Ok(JobEnd::Fault {
-            name,
-            kind: fault.kind,
-            rec: fault.rec,
-        }),
-        None => unreachable!(),
-    }
+    let path = nodes[fault.place].path.clone()?;
+    Ok(JobEnd::Fault {
+        name: Text::of(path),
+        kind: fault.kind,
+        rec: fault.rec,
+    })
 }
 
 /// The sinks by their names, which differ.
