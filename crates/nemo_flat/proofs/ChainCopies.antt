@@ -14,7 +14,7 @@ use Rattle.nemo_ir.specs.Flat.{is_sink}
 use Rattle.nemo_ir.specs.Line.{one_before}
 use Rattle.nemo_ir.proofs.Places.{got, map_at-whole}
 use Rattle.nemo_job.specs.Chain.{follows, has_none, is_built, is_end, is_map, links, names_of}
-use Rattle.nemo_job.specs.Held.{does_sink}
+use Rattle.nemo_transform.specs.Sinks.{does_sink}
 use Rattle.nemo_job.specs.Unrolled.{Bound, Copy, Scope, at_start, bind, copied, each, fed_by, ports_of, source_of, unroll_vertex, unroll_work, unrolled}
 use Rattle.nemo_job.specs.declared.vertex.JobVertex.{JobVertex}
 use Rattle.nemo_job.specs.declared.vertex.Ref.{Ref}

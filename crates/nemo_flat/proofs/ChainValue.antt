@@ -24,13 +24,14 @@ use Rattle.nemo_job.specs.declared.vertex.Work.TheVariants.{Op}
 use Rattle.nemo_job.proofs.Plain.{no_faults, rows_filled}
 use Rattle.nemo_base.specs.Numbered.{map_at}
 use Rattle.nemo_flat.specs.Flat.{copy_at, flat_of}
-use Rattle.nemo_flat.specs.Meaning.{Reached, by_path, flat_faults, flat_rows, reached, under}
+use Rattle.nemo_ir.specs.Meaning.{Reached, by_path, flat_faults, flat_rows, reached, under}
 use Rattle.nemo_job.proofs.ChainMean.{parts}
 use Rattle.nemo_flat.proofs.ChainFlat.{chain_is, end_op, map_op, nameless, row_of, source_op, table, table_more}
 use Rattle.nemo_ir.proofs.Places.{map_at-length, map_at-whole, ended, from_none, got, last_only, same_item}
 use Rattle.nemo_job.proofs.ChainMean.{chain_rows, chain_sound}
-use Rattle.nemo_job.specs.ByPlace.{place_cmp}
-use Rattle.nemo_job.specs.Sinks.{in_order, job_faults, job_rows}
+use Rattle.nemo_transform.specs.ArisenOrder.{place_cmp}
+use Rattle.nemo_job.specs.Sinks.{job_faults, job_rows}
+use Rattle.nemo_value.specs.SinkOrder.{in_order}
 use Rattle.nemo_value.specs.Order.{record_cmp}
 use Rattle.nemo_value.specs.Sorting.{sorted}
 use Rattle.std.proofs.lemmas.List.{length-map}

@@ -6,7 +6,7 @@ use Rattle.std.specs.List.{list_any}
 use Rattle.nemo_ir.proofs.Places.{same_item}
 use Rattle.nemo_transform.specs.declared.transform.Transform.{Transform}
 use Rattle.nemo_transform.specs.declared.transform.Transform.TheVariants.{Sink}
-use Rattle.nemo_job.specs.Held.{does_sink}
+use Rattle.nemo_transform.specs.Sinks.{does_sink}
 use Rattle.nemo_job.specs.Mean.{turn_path, turns_from}
 use Rattle.nemo_job.specs.Refusals.{IsJob}
 use Rattle.nemo_job.specs.Sinks.{is_sink}

@@ -18,7 +18,8 @@ use Rattle.nemo_ir.specs.declared.flat.FlatVertex.{FlatVertex}
 use Rattle.nemo_ir.proofs.Places.{from_none, got, list_all-each, list_any-at, or_true, same_item}
 use Rattle.nemo_job.specs.ByPlace.{ByPlace, values}
 use Rattle.nemo_job.specs.Fitting.{does_fit, fits}
-use Rattle.nemo_job.specs.Held.{IsPlaced, does_sink, sink_at, sinks_given}
+use Rattle.nemo_job.specs.Held.{IsPlaced, sink_at, sinks_given}
+use Rattle.nemo_transform.specs.Sinks.{does_sink}
 use Rattle.nemo_job.specs.Refusals.{IsJob, has_ports as fed}
 use Rattle.nemo_job.specs.Sites.{Doing, Does, Loops, Site, sites}
 use Rattle.nemo_job.specs.Unrolled.{Copy, path_at, path_or, placed_copies, placed_copy, unrolled}

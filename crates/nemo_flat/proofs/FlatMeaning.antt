@@ -13,16 +13,18 @@ use Rattle.nemo_transform.specs.declared.transform.Transform.TheVariants.{Sink}
 use Rattle.nemo_ir.specs.Flat.{sink_name, transform_of}
 use Rattle.nemo_ir.specs.Value.{value}
 use Rattle.nemo_ir.specs.declared.flat.FlatVertex.{FlatVertex}
-use Rattle.nemo_job.specs.ByPlace.{ByPlace, place_cmp, values}
+use Rattle.nemo_job.specs.ByPlace.{ByPlace, values}
+use Rattle.nemo_transform.specs.ArisenOrder.{place_cmp}
 use Rattle.nemo_job.specs.Ends as ends
-use Rattle.nemo_job.specs.Held.{IsPlaced, does_sink, faults_given, sink_at, sinks_given}
+use Rattle.nemo_job.specs.Held.{IsPlaced, faults_given, sink_at, sinks_given}
+use Rattle.nemo_transform.specs.Sinks.{does_sink}
 use Rattle.nemo_job.specs.Refusals.{IsJob}
 use Rattle.nemo_job.specs.Sinks.{job_faults, place_of, sinks_reached}
 use Rattle.nemo_job.specs.Unrolled.{Copy, placed_copies, placed_copy, unrolled}
 use Rattle.nemo_job.specs.declared.vertex.JobVertex.{JobVertex}
 use Rattle.nemo_job.proofs.Natural.{renamed, renamed_fault}
 use Rattle.nemo_flat.specs.Flattened.{Numbered, flat_vertex, flattened, kept, number_of}
-use Rattle.nemo_flat.specs.Meaning.{Reached, by_path, flat_faults, flat_reached, reached, under}
+use Rattle.nemo_ir.specs.Meaning.{Reached, by_path, flat_faults, flat_reached, reached, under}
 use Rattle.nemo_flat.proofs.KeptCopies.{KeptAt, at_in, copy_at}
 use Rattle.nemo_flat.proofs.KeptFaults.{Arise, faults_are, faults_kept as faults_arise, flat_kept, numbered, valued}
 use Rattle.nemo_flat.proofs.KeptOrder.{ascending_arise, ascending_mapped, same_order, same_paths}

@@ -1,10 +1,11 @@
 -- Flattening keeps what a job means.
 use Rattle.std.proofs.Common.{◌≡◌, ap, List}
 use Rattle.nemo_flat.specs.Flattened.{flattened}
-use Rattle.nemo_flat.specs.Meaning.{flat_faults, flat_reached, flat_rows}
+use Rattle.nemo_ir.specs.Meaning.{flat_faults, flat_reached, flat_rows}
 use Rattle.nemo_flat.proofs.FlatMeaning.{faults_kept, reached_kept}
 use Rattle.nemo_job.specs.Refusals.{IsJob}
-use Rattle.nemo_job.specs.Sinks.{in_order, job_faults, job_rows, sinks_reached}
+use Rattle.nemo_job.specs.Sinks.{job_faults, job_rows, sinks_reached}
+use Rattle.nemo_value.specs.SinkOrder.{in_order}
 use Rattle.nemo_job.specs.declared.vertex.JobVertex.{JobVertex}
 use Rattle.nemo_job.proofs.CopiesPlaced.{unrolled_placed}
 use Rattle.nemo_job.proofs.CopyFaults.{faults_placed}

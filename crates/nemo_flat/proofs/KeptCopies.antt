@@ -5,7 +5,8 @@ use Rattle.std.proofs.lemmas.Option.{slice_get-map}
 use Rattle.std.specs.List.{list_any}
 use Rattle.nemo_value.proofs.Members.{In}
 use Rattle.nemo_ir.proofs.Places.{list_any-at}
-use Rattle.nemo_job.specs.Held.{IsLower, does_sink}
+use Rattle.nemo_job.specs.Held.{IsLower}
+use Rattle.nemo_transform.specs.Sinks.{does_sink}
 use Rattle.nemo_job.specs.Unrolled.{Copy, placed_copy}
 use Rattle.nemo_flat.specs.Flattened.{Numbered, is_taken, kept, kept_from, number_of}
 

@@ -11,7 +11,8 @@ use Rattle.nemo_transform.specs.Ports.{kinds_of}
 use Rattle.nemo_transform.specs.declared.fault.Fault.{Fault}
 use Rattle.nemo_transform.specs.declared.transform.Transform.{Transform}
 use Rattle.nemo_job.specs.ByPlace.{ByPlace, values}
-use Rattle.nemo_job.specs.Held.{IsLower, does_sink, faults_given}
+use Rattle.nemo_job.specs.Held.{IsLower, faults_given}
+use Rattle.nemo_transform.specs.Sinks.{does_sink}
 use Rattle.nemo_job.specs.Unrolled.{Copy, placed_copy}
 use Rattle.nemo_job.proofs.Values.{length_values, value_is}
 use Rattle.nemo_flat.specs.Flattened.{Numbered, is_taken, kept, kept_from}

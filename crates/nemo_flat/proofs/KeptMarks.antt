@@ -7,7 +7,8 @@ use Rattle.std.proofs.lemmas.Option.{slice_get-map, slice_get_read, slice_get_wi
 use Rattle.std.specs.Option.{is_some, option_map}
 use Rattle.nemo_value.proofs.Members.{In}
 use Rattle.nemo_job.specs.ByPlace.{Placed}
-use Rattle.nemo_job.specs.Held.{IsLast, IsLower, IsTaken, does_sink, node_of}
+use Rattle.nemo_job.specs.Held.{IsLast, IsLower, IsTaken, node_of}
+use Rattle.nemo_transform.specs.Sinks.{does_sink}
 use Rattle.nemo_job.specs.Nodes.{copy_of}
 use Rattle.nemo_job.specs.Unrolled.{Copy, placed_copy}
 use Rattle.nemo_job.specs.declared.copies.Node.{Node}

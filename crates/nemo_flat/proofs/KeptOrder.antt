@@ -10,13 +10,13 @@ use Rattle.nemo_value.specs.Ascending.{ascending}
 use Rattle.nemo_value.specs.KindOrder.{kind_cmp}
 use Rattle.nemo_value.specs.Order.{record_cmp}
 use Rattle.nemo_transform.specs.Brought.{Arisen}
-use Rattle.nemo_job.specs.ByPlace.{place_cmp}
+use Rattle.nemo_transform.specs.ArisenOrder.{place_cmp}
 use Rattle.nemo_job.specs.Ends as ends
 use Rattle.nemo_job.specs.Unrolled.{path_at, path_or, unrolled}
 use Rattle.nemo_job.specs.declared.vertex.JobVertex.{JobVertex}
 use Rattle.nemo_job.proofs.Natural.{renamed_fault}
 use Rattle.nemo_flat.specs.Flattened.{Numbered, flat_vertex, flattened, kept, number_of}
-use Rattle.nemo_flat.specs.Meaning.{by_path, name_of}
+use Rattle.nemo_ir.specs.Meaning.{by_path, name_of}
 use Rattle.nemo_flat.proofs.KeptCopies.{KeptAt, copy_at, number_below, stands_at}
 use Rattle.nemo_flat.proofs.KeptFaults.{Arise}
 

@@ -1,7 +1,7 @@
 -- What the copies are that become vertices of a flat job, and which of them do.
 use Rattle.std.specs.Prelude.{◌≡◌, ◌≤◌, ◌<◌, ℕ, ◌||◌, Bool, List, length, map, slice_get, slice_index_or, Some}
 use Rattle.nemo_ir.specs.declared.flat.FlatVertex.{FlatVertex}
-use Rattle.nemo_job.specs.Held.{does_sink}
+use Rattle.nemo_transform.specs.Sinks.{does_sink}
 use Rattle.nemo_job.specs.Unrolled.{Copy}
 use Rattle.nemo_flat.specs.Flattened.{Numbered, is_taken}
 

@@ -3,6 +3,5 @@ pub mod FirstDag
 pub mod Flat
 pub mod Flattened
 pub mod Keeping
-pub mod Meaning
 pub mod Names
 pub mod Table

@@ -4,7 +4,7 @@ ghost use Rattle.nemo_value.specs.Texts.{all_new};
 ghost use Rattle.nemo_flat.specs.Counts.{IsTooMany, copies};
 ghost use Rattle.nemo_flat.specs.Flat.{flat_of};
 ghost use Rattle.nemo_flat.specs.Flattened.{flattened};
-ghost use Rattle.nemo_flat.specs.Meaning.{flat_faults, flat_reached, flat_rows};
+ghost use Rattle.nemo_ir.specs.Meaning.{flat_faults, flat_reached, flat_rows};
 ghost use Rattle.nemo_flat.specs.Names.{is_word, vertex_names};
 ghost use Rattle.nemo_flat.specs.declared.copies.FlattenRefused.{FlattenRefused};
 ghost use Rattle.nemo_ir.specs.Line.{IsLine};

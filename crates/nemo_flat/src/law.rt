@@ -3,7 +3,7 @@ ghost use Rattle.std.specs.List.{list_all};
 ghost use Rattle.nemo_value.specs.Texts.{all_new};
 ghost use Rattle.nemo_flat.specs.Flat.{flat_of};
 ghost use Rattle.nemo_flat.specs.Flattened.{flattened};
-ghost use Rattle.nemo_flat.specs.Meaning.{flat_faults, flat_reached, flat_rows};
+ghost use Rattle.nemo_ir.specs.Meaning.{flat_faults, flat_reached, flat_rows};
 ghost use Rattle.nemo_flat.specs.Names.{is_word, vertex_names};
 ghost use Rattle.nemo_job.specs.Chain.{is_built};
 ghost use Rattle.nemo_job.specs.Refusals.{IsJob};

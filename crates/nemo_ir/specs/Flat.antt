@@ -3,6 +3,7 @@ use Rattle.std.specs.Prelude.{◌≡◌, ◌≤◌, ℕ, ◌&&◌, ◌||◌, ◌
 use Rattle.std.specs.List.{list_all, list_any, filter_map}
 use Rattle.nemo_value.specs.Texts.{all_new}
 use Rattle.nemo_transform.specs.Ports.{kinds_of}
+use Rattle.nemo_transform.specs.Sinks.{does_sink}
 use Rattle.nemo_transform.specs.Soundness.{is_sound}
 use Rattle.nemo_transform.specs.declared.transform.Transform.{Transform}
 use Rattle.nemo_transform.specs.declared.transform.Transform.TheVariants.{Sink}
@@ -20,10 +21,6 @@ transform_of flat x = slice_get flat.transforms x.transform
 -- as many inputs as its transform has ports
 abbrev pub has_ports : FlatForm → FlatVertex → Bool
 has_ports flat x = passes (λ t. length (kinds_of t) == length x.inputs) (transform_of flat x)
-
-abbrev pub does_sink : Transform → Bool
-does_sink (Sink name) = true
-does_sink _ = false
 
 abbrev pub sink_name : Option Transform → Option (List ℕ)
 sink_name (Some (Sink name)) = Some name

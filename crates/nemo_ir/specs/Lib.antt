@@ -2,6 +2,7 @@ pub mod Along
 pub mod Flat
 pub mod Index
 pub mod Line
+pub mod Meaning
 pub mod Nodes
 pub mod Part
 pub mod Rewrites

@@ -12,7 +12,7 @@ use Rattle.nemo_transform.specs.declared.transform.Transform.{Transform}
 use Rattle.nemo_transform.specs.declared.transform.Transform.TheVariants.{Sink}
 use Rattle.nemo_job.specs.ByPlace.{ByPlace, Placed, values}
 use Rattle.nemo_job.specs.Fitting.{does_fit, fits}
-use Rattle.nemo_job.specs.Held.{does_sink}
+use Rattle.nemo_transform.specs.Sinks.{does_sink}
 use Rattle.nemo_job.specs.Mean.{ByPath, mean, ports_at}
 use Rattle.nemo_job.specs.Refusals.{IsJob, has_double, has_name, is_good}
 use Rattle.nemo_job.specs.Sinks.{is_sink, reaching}

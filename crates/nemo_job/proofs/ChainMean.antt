@@ -18,7 +18,8 @@ use Rattle.nemo_job.specs.ChainRows.{rows_after, rows_through}
 use Rattle.nemo_transform.specs.Brought.{arisen, port}
 use Rattle.nemo_job.specs.Mean.{ByPath, Entry, look, ports_at, run, vertex_mean, work_mean}
 use Rattle.nemo_job.specs.Paths.{paths}
-use Rattle.nemo_job.specs.Sinks.{arisen_cmp, in_order, is_sink, job_faults, job_rows, reaching, sink_reached, sinks_of}
+use Rattle.nemo_job.specs.Sinks.{arisen_cmp, is_sink, job_faults, job_rows, reaching, sink_reached, sinks_of}
+use Rattle.nemo_value.specs.SinkOrder.{in_order}
 use Rattle.nemo_job.specs.declared.vertex.JobVertex.{JobVertex}
 use Rattle.nemo_job.specs.declared.vertex.Ref.{Ref}
 use Rattle.nemo_job.specs.declared.vertex.Work.{Work}

@@ -15,9 +15,11 @@ use Rattle.nemo_transform.specs.Brought.{Arisen, port, nothing}
 use Rattle.nemo_transform.specs.Gives.{Row}
 use Rattle.nemo_transform.specs.declared.transform.Transform.{Transform}
 use Rattle.nemo_transform.specs.declared.transform.Transform.TheVariants.{Source, Map, Filter, Emit, Words, Union, Reduce, Distinct, Join, SideJoin, Sink}
-use Rattle.nemo_job.specs.ByPlace.{ByPlace, Placed, first_fault, place_cmp, values}
-use Rattle.nemo_job.specs.Held.{IsGiven, Known, arisen_at, does_sink, faults_given, known, known_value, lesser, node_of, sink_at, sinks_given}
-use Rattle.nemo_job.specs.Sinks.{with_sorted}
+use Rattle.nemo_job.specs.ByPlace.{ByPlace, Placed, first_fault, values}
+use Rattle.nemo_transform.specs.ArisenOrder.{place_cmp}
+use Rattle.nemo_job.specs.Held.{IsGiven, Known, arisen_at, faults_given, known, known_value, lesser, node_of, sink_at, sinks_given}
+use Rattle.nemo_transform.specs.Sinks.{does_sink}
+use Rattle.nemo_value.specs.SinkOrder.{with_sorted}
 use Rattle.nemo_job.specs.declared.held.Held.{Held}
 use Rattle.nemo_job.specs.declared.copies.Node.{Node}
 use Rattle.nemo_job.proofs.Feeding.{read_at, some_one}

@@ -11,7 +11,8 @@ use Rattle.nemo_transform.specs.Soundness.{is_few, is_sound}
 use Rattle.nemo_transform.specs.declared.transform.Transform.{Transform}
 use Rattle.nemo_job.specs.ByPlace.{Placed}
 use Rattle.nemo_job.specs.Fitting.{does_fit}
-use Rattle.nemo_job.specs.Held.{IsPlaced, does_sink}
+use Rattle.nemo_job.specs.Held.{IsPlaced}
+use Rattle.nemo_transform.specs.Sinks.{does_sink}
 use Rattle.nemo_job.specs.Mean.{turn_path, turns_from}
 use Rattle.nemo_job.specs.Refusals.{IsJob, gives_none, has_ports, is_end, is_good, is_known, is_next_known}
 use Rattle.nemo_job.specs.Sites.{Doing, Does, Loops, Face, Standing, Working, face_of, faces, port_face, sites_after, standing, stands, working}

@@ -12,10 +12,12 @@ use Rattle.nemo_transform.specs.declared.transform.Transform.{Transform}
 use Rattle.nemo_transform.specs.declared.transform.Transform.TheVariants.{Sink}
 use Rattle.nemo_job.specs.ByPlace.{ByPlace, Placed, values}
 use Rattle.nemo_job.specs.Chain.{names_of}
-use Rattle.nemo_job.specs.Held.{does_sink, sink_at, sinks_given}
+use Rattle.nemo_job.specs.Held.{sink_at, sinks_given}
+use Rattle.nemo_transform.specs.Sinks.{does_sink}
 use Rattle.nemo_job.specs.Mean.{ByPath, mean}
 use Rattle.nemo_job.specs.Refusals.{IsJob, has_double, has_name}
-use Rattle.nemo_job.specs.Sinks.{in_order, is_sink, job_rows, reaching, sink_reached, sinks_of, sinks_reached}
+use Rattle.nemo_job.specs.Sinks.{is_sink, job_rows, reaching, sink_reached, sinks_of, sinks_reached}
+use Rattle.nemo_value.specs.SinkOrder.{in_order}
 use Rattle.nemo_job.specs.Sites.{Face, faces, sites_after, standing, working}
 use Rattle.nemo_job.specs.Unrolled.{at_start, path_at, placed_copies, unroll_all}
 use Rattle.nemo_job.specs.declared.vertex.JobVertex.{JobVertex}

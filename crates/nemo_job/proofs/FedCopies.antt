@@ -9,7 +9,7 @@ use Rattle.nemo_transform.specs.Soundness.{is_few, is_sound}
 use Rattle.nemo_transform.specs.declared.transform.Transform.{Transform}
 use Rattle.nemo_transform.specs.declared.transform.Transform.TheVariants.{Source, Map, Filter, Emit, Words, Union, Reduce, Distinct, Join, SideJoin, Sink}
 use Rattle.nemo_job.specs.Fitting.{fits}
-use Rattle.nemo_job.specs.Held.{does_sink}
+use Rattle.nemo_transform.specs.Sinks.{does_sink}
 use Rattle.nemo_job.specs.Refusals.{gives_none, has_ports}
 use Rattle.nemo_job.specs.Sites.{Does}
 use Rattle.nemo_job.specs.Unrolled.{Copy, Ports}

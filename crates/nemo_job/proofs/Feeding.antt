@@ -10,7 +10,8 @@ use Rattle.std.proofs.lemmas.Option.{slice_get-map, slice_get_read}
 use Rattle.std.specs.Cow.{cow_slice_items}
 use Rattle.nemo_transform.specs.Brought.{port, all_rows, all_faults, nothing}
 use Rattle.nemo_transform.specs.Gives.{Row, is_filled}
-use Rattle.nemo_job.specs.ByPlace.{ByPlace, first_fault, place_cmp}
+use Rattle.nemo_job.specs.ByPlace.{ByPlace, first_fault}
+use Rattle.nemo_transform.specs.ArisenOrder.{place_cmp}
 use Rattle.nemo_job.specs.Held.{Feeds, Known, known, known_value, arisen_at, lesser}
 use Rattle.nemo_job.specs.declared.held.Held.{Held}
 use Rattle.nemo_job.specs.declared.held.Located.{Located}

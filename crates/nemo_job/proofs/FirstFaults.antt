@@ -16,7 +16,8 @@ use Rattle.nemo_transform.specs.FaultOrder.{fault_cmp}
 use Rattle.nemo_transform.specs.Gives.{Answer, fault_in, own_faults, is_filled}
 use Rattle.nemo_transform.specs.declared.fault.Fault.{Fault}
 use Rattle.nemo_transform.proofs.FaultOrders.{fault_strict, first_ties, second_ties}
-use Rattle.nemo_job.specs.ByPlace.{place_cmp, first_fault}
+use Rattle.nemo_job.specs.ByPlace.{first_fault}
+use Rattle.nemo_transform.specs.ArisenOrder.{place_cmp}
 use Rattle.nemo_job.specs.Held.{lesser, arisen_at}
 use Rattle.nemo_job.specs.declared.held.Located.{Located}
 use Rattle.nemo_job.specs.contracts.held.LocatedOrd.TheImpl.{ghosts}

@@ -10,7 +10,8 @@ use Rattle.nemo_transform.specs.Ports.{kinds_of}
 use Rattle.nemo_transform.specs.declared.transform.Transform.{Transform}
 use Rattle.nemo_transform.specs.declared.transform.Transform.TheVariants.{Sink}
 use Rattle.nemo_transform.proofs.MapSteps.{rows_in-rows, no_fault-rows}
-use Rattle.nemo_job.specs.ByPlace.{ByPlace, Placed, first_fault, place_cmp}
+use Rattle.nemo_job.specs.ByPlace.{ByPlace, Placed, first_fault}
+use Rattle.nemo_transform.specs.ArisenOrder.{place_cmp}
 use Rattle.nemo_job.specs.Held.{Feeds, Known, known_value, answers_at, value_at, lesser}
 use Rattle.nemo_job.proofs.Feeding.{some_one}
 use Rattle.nemo_job.proofs.FirstFaults.{first_fault_both}

@@ -9,12 +9,14 @@ use Rattle.nemo_value.specs.Sorting.{sorted}
 use Rattle.nemo_value.specs.Texts.{all_new}
 use Rattle.nemo_value.specs.declared.record.SinkRows.{SinkRows}
 use Rattle.nemo_transform.specs.Brought.{Arisen}
-use Rattle.nemo_job.specs.ByPlace.{first_fault, place_cmp, values}
+use Rattle.nemo_job.specs.ByPlace.{first_fault, values}
+use Rattle.nemo_transform.specs.ArisenOrder.{place_cmp}
 use Rattle.nemo_job.specs.Ends.{IsEndOf, by_path, fault_end}
 use Rattle.nemo_job.specs.Held.{arisen_at, faults_given, node_of, sinks_given}
 use Rattle.nemo_job.specs.Nodes.{copy_of}
 use Rattle.nemo_job.specs.Refusals.{IsJob}
-use Rattle.nemo_job.specs.Sinks.{by_name, job_faults, job_rows, with_sorted}
+use Rattle.nemo_job.specs.Sinks.{job_faults, job_rows}
+use Rattle.nemo_value.specs.SinkOrder.{by_name, with_sorted}
 use Rattle.nemo_job.specs.Unrolled.{placed_copies, placed_copy, unrolled}
 use Rattle.nemo_job.specs.declared.copies.Node.{Node}
 use Rattle.nemo_job.specs.declared.evaluate.JobEnd.{JobEnd}

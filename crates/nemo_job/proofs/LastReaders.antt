@@ -5,7 +5,8 @@ use Rattle.std.proofs.lemmas.Bool.Decides.{eqb_tells}
 use Rattle.std.proofs.lemmas.List.{length-map, length-set, set-get_or, take_more}
 use Rattle.std.proofs.lemmas.Option.{slice_get_within, slice_get-map, slice_get_read}
 use Rattle.nemo_job.specs.ByPlace.{Placed}
-use Rattle.nemo_job.specs.Held.{IsLower, IsTaken, does_sink, node_of}
+use Rattle.nemo_job.specs.Held.{IsLower, IsTaken, node_of}
+use Rattle.nemo_transform.specs.Sinks.{does_sink}
 use Rattle.nemo_job.specs.Readers.{IsMarked, end_of}
 use Rattle.nemo_job.specs.declared.copies.Node.{Node}
 

@@ -6,7 +6,7 @@ use Rattle.std.specs.List.{list_any}
 use Rattle.nemo_transform.specs.Soundness.{is_few}
 use Rattle.nemo_transform.specs.declared.transform.Transform.{Transform}
 use Rattle.nemo_transform.specs.declared.transform.Transform.TheVariants.{Sink}
-use Rattle.nemo_job.specs.Held.{does_sink}
+use Rattle.nemo_transform.specs.Sinks.{does_sink}
 use Rattle.nemo_job.specs.Mean.{turn_path}
 use Rattle.nemo_job.specs.Refusals.{is_end, is_good}
 use Rattle.nemo_job.specs.Sites.{Doing, Does, Loops, Face, face_of, faces, port_face, sites_after, standing, working}

@@ -15,7 +15,7 @@ use Rattle.nemo_value.specs.Order.{record_cmp, text_cmp}
 use Rattle.nemo_value.specs.Sorting.{placed, sorted}
 use Rattle.nemo_value.specs.Texts.{same_text, all_new}
 use Rattle.nemo_value.specs.declared.record.SinkRows.{SinkRows}
-use Rattle.nemo_job.specs.Sinks.{by_name}
+use Rattle.nemo_value.specs.SinkOrder.{by_name}
 use Rattle.nemo_transform.proofs.FaultOrders.{first_ties, second_ties}
 
 -- by name, and then by rows: sinks that tie are equal

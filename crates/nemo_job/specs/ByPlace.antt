@@ -1,11 +1,8 @@
 -- What the copies of a job's vertices give, named by their places.
 use Rattle.std.specs.Prelude.{ℕ, List, [], length, map, slice_get, Option}
-use Rattle.std.specs.Ordering.{nat_cmp, ordering_then}
-use Rattle.std.specs.declared.cmp.Ordering.{Ordering}
 use Rattle.nemo_value.specs.Along.{along}
 use Rattle.nemo_value.specs.Ascending.{ascending}
-use Rattle.nemo_value.specs.KindOrder.{kind_cmp}
-use Rattle.nemo_value.specs.Order.{record_cmp}
+use Rattle.nemo_transform.specs.ArisenOrder.{place_cmp}
 use Rattle.nemo_transform.specs.Brought.{Arisen, Brought, port, at}
 use Rattle.nemo_transform.specs.declared.transform.Transform.{Transform}
 
@@ -28,13 +25,6 @@ values_from = along value_after
 -- what each vertex gives
 abbrev pub values : List Placed → List ByPlace
 values ps = values_from [] ps
-
--- by the place of the vertex where it arose, and then by kind and record
-abbrev pub arisen_by : {X : Type 0} → (X → ℕ) → Arisen X → Arisen X → Ordering
-arisen_by place a b = ordering_then (nat_cmp (place a.vertex) (place b.vertex)) (ordering_then (kind_cmp a.kind b.kind) (record_cmp a.rec b.rec))
-
-abbrev pub place_cmp : Arisen ℕ → Arisen ℕ → Ordering
-place_cmp = arisen_by (λ place. place)
 
 -- the first of some faults
 abbrev pub first_fault : List (Arisen ℕ) → Option (Arisen ℕ)

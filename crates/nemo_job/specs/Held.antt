@@ -11,7 +11,7 @@ use Rattle.nemo_transform.specs.declared.transform.Transform.{Transform}
 use Rattle.nemo_transform.specs.declared.transform.Transform.TheVariants.{Sink}
 use Rattle.nemo_job.specs.ByPlace.{ByPlace, Placed, first_fault}
 use Rattle.nemo_value.specs.declared.record.SinkRows.{SinkRows}
-pub use Rattle.nemo_job.specs.Sinks.{does_sink}
+pub use Rattle.nemo_transform.specs.Sinks.{does_sink}
 use Rattle.nemo_job.specs.declared.held.Held.{Held}
 use Rattle.nemo_job.specs.declared.held.Located.{Located}
 use Rattle.nemo_job.specs.declared.copies.Node.{Node}

@@ -1,7 +1,7 @@
 -- Which vertex is the last that takes what a vertex gives.
 use Rattle.std.specs.Prelude.{◌≡◌, ◌⊎◌, ℕ, List, length, slice_get, Option, Some, None, if◌then◌else◌}
 use Rattle.nemo_job.specs.ByPlace.{Placed}
-use Rattle.nemo_job.specs.Held.{does_sink}
+use Rattle.nemo_transform.specs.Sinks.{does_sink}
 
 -- the number of vertices for a sink
 abbrev pub end_of : ℕ → Placed → Option ℕ

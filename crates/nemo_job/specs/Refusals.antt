@@ -9,7 +9,8 @@ use Rattle.nemo_transform.specs.Soundness.{is_few}
 use Rattle.nemo_transform.specs.declared.transform.Transform.{Transform}
 use Rattle.nemo_transform.specs.declared.transform.Transform.TheVariants.{Source, Union, Sink}
 use Rattle.nemo_job.specs.Fitting.{are_fitting}
-use Rattle.nemo_job.specs.Sinks.{does_sink, is_sink}
+use Rattle.nemo_job.specs.Sinks.{is_sink}
+use Rattle.nemo_transform.specs.Sinks.{does_sink}
 use Rattle.nemo_job.specs.Sites.{Doing, Does, Loops, Face, Site, port_face, sites}
 use Rattle.nemo_job.specs.declared.job.JobRefused.{JobRefused}
 use Rattle.nemo_job.specs.declared.job.JobRefused.TheVariants as job

@@ -3,23 +3,17 @@ use Rattle.std.specs.Prelude.{ℕ, List, map, position, unwrap_or, Bool, true, f
 use Rattle.std.specs.List.{flat_map}
 use Rattle.std.specs.declared.cmp.Ordering.{Ordering}
 use Rattle.nemo_value.specs.Ascending.{ascending}
-use Rattle.nemo_value.specs.Order.{record_cmp, text_cmp}
-use Rattle.nemo_value.specs.Sorting.{sorted}
+use Rattle.nemo_value.specs.SinkOrder.{in_order}
 use Rattle.nemo_value.specs.declared.record.SinkRows.{SinkRows}
-use Rattle.nemo_transform.specs.declared.transform.Transform.{Transform}
-use Rattle.nemo_transform.specs.declared.transform.Transform.TheVariants.{Sink}
+use Rattle.nemo_transform.specs.Sinks.{does_sink}
+use Rattle.nemo_transform.specs.ArisenOrder.{arisen_by}
 use Rattle.nemo_transform.specs.Brought.{Arisen}
 use Rattle.nemo_value.specs.Texts.{same_text}
-use Rattle.nemo_job.specs.ByPlace.{arisen_by}
 use Rattle.nemo_job.specs.Mean.{ByPath, mean, look}
 use Rattle.nemo_job.specs.Paths.{paths}
 use Rattle.nemo_job.specs.declared.vertex.JobVertex.{JobVertex}
 use Rattle.nemo_job.specs.declared.vertex.Work.{Work}
 use Rattle.nemo_job.specs.declared.vertex.Work.TheVariants.{Op}
-
-abbrev pub does_sink : Transform → Bool
-does_sink (Sink name) = true
-does_sink _ = false
 
 abbrev pub is_sink : Work → Bool
 is_sink (Op t) = does_sink t
@@ -41,17 +35,7 @@ sink_reached vs v = record { name = v.name; rows = (reaching vs v).rows }
 abbrev pub sinks_reached : List JobVertex → List SinkRows
 sinks_reached vs = map (sink_reached vs) (sinks_of vs)
 
--- a sink with its rows in order
-abbrev pub with_sorted : SinkRows → SinkRows
-with_sorted s = record { name = s.name; rows = sorted record_cmp s.rows }
-
-abbrev pub by_name : SinkRows → SinkRows → Ordering
-by_name a b = text_cmp a.name b.name
-
 -- the sinks by name, each with its rows in order
-abbrev pub in_order : List SinkRows → List SinkRows
-in_order sinks = sorted by_name (map with_sorted sinks)
-
 abbrev pub job_rows : List JobVertex → List SinkRows
 job_rows vs = in_order (sinks_reached vs)
 

@@ -3,12 +3,15 @@ ghost use Rattle.std.specs.Cow.{cow_slice_items};
 ghost use Rattle.nemo_value.specs.Order.{record_cmp};
 ghost use Rattle.nemo_value.specs.Sorting.{sorted};
 ghost use Rattle.nemo_value.specs.Texts.{all_new};
-ghost use Rattle.nemo_job.specs.ByPlace.{first_fault, place_cmp, values};
+ghost use Rattle.nemo_job.specs.ByPlace.{first_fault, values};
+ghost use Rattle.nemo_transform.specs.ArisenOrder.{place_cmp};
 ghost use Rattle.nemo_job.specs.Ends.{IsEndOf, fault_end};
 ghost use Rattle.nemo_job.specs.Held.{IsGiven, IsHeld, IsLast, IsPlaced, arisen_at, faults_given, known, lesser, node_of, sink_at, sinks_given};
 ghost use Rattle.nemo_job.specs.Nodes.{copy_of};
 ghost use Rattle.nemo_job.specs.Sinks as spec;
-ghost use Rattle.nemo_job.specs.Sinks.{does_sink, job_rows, job_faults, with_sorted};
+ghost use Rattle.nemo_job.specs.Sinks.{job_rows, job_faults};
+ghost use Rattle.nemo_transform.specs.Sinks.{does_sink};
+ghost use Rattle.nemo_value.specs.SinkOrder.{with_sorted};
 ghost use Rattle.nemo_job.specs.Unrolled.{path_in};
 
 use crate::copies::Node;
@@ -73,7 +76,7 @@ fn end_at(alloc: Global, nodes: &[Node<'_>], fault: Located) -> Result<JobEnd, N
 /// The sinks by their names, which differ.
 fn by_name(mut sinks: Vec<SinkRows>) -> Vec<SinkRows>
     requires { all_new [] (map (λ s. s.name) sinks.items) ≡ true }
-    ensures { result.items ≡ sorted spec.by_name sinks.items }
+    ensures { result.items ≡ sorted by_name sinks.items }
 {
     sinks.sort_unstable_by(|a, b| a.name.as_str().cmp(b.name.as_str()));
     sinks

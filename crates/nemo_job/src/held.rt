@@ -4,7 +4,8 @@ ghost use Rattle.nemo_transform.specs.Brought.{port, all_rows, all_faults, arise
 ghost use Rattle.nemo_transform.specs.Gives.{answers, is_filled, own_faults, rows_in};
 ghost use Rattle.nemo_transform.specs.Ports.{kinds_of};
 ghost use Rattle.nemo_transform.specs.Soundness.{is_sound};
-ghost use Rattle.nemo_job.specs.ByPlace.{ByPlace, first_fault, place_cmp};
+ghost use Rattle.nemo_job.specs.ByPlace.{ByPlace, first_fault};
+ghost use Rattle.nemo_transform.specs.ArisenOrder.{place_cmp};
 ghost use Rattle.nemo_job.specs.Held.{Feeds, IsReleased, answers_at, answers_on, arisen_at, known, known_value, lesser, node_of, value_at};
 
 use crate::copies::Node;

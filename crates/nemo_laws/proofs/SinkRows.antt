@@ -18,7 +18,8 @@ use Rattle.nemo_ir.specs.declared.dag.IrEdge.{IrEdge}
 use Rattle.nemo_ir.specs.declared.dag.IrVertex.{IrVertex}
 use Rattle.nemo_ir.proofs.Places.{from_none, got, last_only, same_item}
 use Rattle.nemo_job.specs.Chain.{is_built}
-use Rattle.nemo_job.specs.Sinks.{by_name, job_rows}
+use Rattle.nemo_job.specs.Sinks.{job_rows}
+use Rattle.nemo_value.specs.SinkOrder.{by_name}
 use Rattle.nemo_job.specs.declared.vertex.JobVertex.{JobVertex}
 use Rattle.nemo_flat.specs.Flat.{flat_of}
 use Rattle.nemo_flat.proofs.ChainFlat.{chain_is}

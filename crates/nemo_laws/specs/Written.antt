@@ -12,7 +12,7 @@ use Rattle.nemo_transform.specs.declared.transform.Transform.TheVariants.{Sink}
 use Rattle.nemo_ir.specs.Along.{below}
 use Rattle.nemo_ir.specs.Nodes.{Deed, Does, deed_of}
 use Rattle.nemo_ir.specs.declared.dag.IrVertex.{IrVertex}
-use Rattle.nemo_job.specs.Sinks.{by_name}
+use Rattle.nemo_value.specs.SinkOrder.{by_name}
 use Rattle.nemo_core.specs.State.{State, held_at, holder}
 use Rattle.nemo_core.specs.Step.{after}
 use Rattle.nemo_core.specs.declared.event.Event.{Event}

@@ -13,7 +13,7 @@ use Rattle.nemo_ir.specs.Flat.{FlatForm}
 use Rattle.nemo_ir.specs.Uniform.{is_uniform}
 use Rattle.nemo_ir.specs.Valid.{Valid}
 use Rattle.nemo_flat.specs.Flat.{IsChainForm, flat_of}
-use Rattle.nemo_flat.specs.Meaning.{flat_rows}
+use Rattle.nemo_ir.specs.Meaning.{flat_rows}
 use Rattle.nemo_flat.proofs.ChainValue.{keeps_rows}
 use Rattle.nemo_core.specs.Run.{refusal_in}
 use Rattle.nemo_core.specs.State.{Machine, start_machine}

@@ -2,7 +2,7 @@ ghost use Rattle.std.specs.Prelude.{◌≡◌, ◌<◌, ◌≤◌, ◌+◌, ◌+
 ghost use Rattle.std.specs.List.{flat_map};
 ghost use Rattle.nemo_core.specs.declared.event.Outcome.{Outcome};
 ghost use Rattle.nemo_flat.specs.Flat.{IsChainForm};
-ghost use Rattle.nemo_flat.specs.Meaning.{flat_rows};
+ghost use Rattle.nemo_ir.specs.Meaning.{flat_rows};
 ghost use Rattle.nemo_ir.specs.Along.{below};
 ghost use Rattle.nemo_ir.specs.Uniform.{first_tasks, is_uniform};
 ghost use Rattle.nemo_laws.specs.Done.{IsDoneRun, IsRange};

@@ -5,7 +5,7 @@ use Rattle.nemo_core.specs.declared.event.Event.{Event}
 use Rattle.nemo_flat.specs.Flat.{IsChainForm, flat_of}
 use Rattle.nemo_flat.proofs.ChainFlat.{chain_is, line_of}
 use Rattle.nemo_flat.proofs.ChainValue.{keeps_faults, keeps_none, keeps_rows}
-use Rattle.nemo_flat.specs.Meaning.{flat_rows}
+use Rattle.nemo_ir.specs.Meaning.{flat_rows}
 use Rattle.nemo_ir.specs.Flat.{FlatForm}
 use Rattle.nemo_ir.specs.Line.{IsLine}
 use Rattle.nemo_ir.specs.declared.dag.IrDag.{IrDag}

@@ -13,7 +13,7 @@ use Rattle.nemo_bundle.specs.Read.{bundle_of}
 use Rattle.nemo_bundle.specs.declared.bundle.Bundle.{Bundle}
 use Rattle.nemo_bundle.specs.declared.end.BundleEnd.{BundleEnd}
 use Rattle.nemo_bundle.specs.declared.end.BundleEnd.TheVariants as end
-use Rattle.nemo_flat.specs.Meaning.{flat_rows}
+use Rattle.nemo_ir.specs.Meaning.{flat_rows}
 use Rattle.nemo_ir.specs.Flat.{FlatForm}
 use Rattle.nemo_ir.specs.Valid.{Valid, FirstFailure}
 use Rattle.nemo_ir.specs.declared.dag.IrDag.{IrDag}

@@ -1,3 +1,4 @@
+pub mod ArisenOrder
 pub mod Brought
 pub mod FaultOrder
 pub mod FirstField
@@ -8,6 +9,7 @@ pub mod Laws
 pub mod Passing
 pub mod Ports
 pub mod RowByRow
+pub mod Sinks
 pub mod Soundness
 pub mod Tasks
 pub mod Words

@@ -10,6 +10,7 @@ pub mod KindOrder
 pub mod Members
 pub mod Names
 pub mod Order
+pub mod SinkOrder
 pub mod Sorting
 pub mod TextBytes
 pub mod Texts

@@ -6,7 +6,7 @@ use Rattle.nemo_job.proofs.CopiesPlaced.{unrolled_feeds, unrolled_placed}
 use Rattle.nemo_job.proofs.CopySinks.{sinks_apart}
 use Rattle.nemo_job.proofs.UnrolledMean.{mean_unrolled}
 use Rattle.nemo_flat.specs.Flattened.{flattened, operations}
-use Rattle.nemo_flat.specs.Meaning.{flat_faults, flat_reached, flat_rows}
+use Rattle.nemo_ir.specs.Meaning.{flat_faults, flat_reached, flat_rows}
 use Rattle.nemo_flat.specs.Names.{is_word, vertex_names}
 use Rattle.nemo_value.specs.Texts.{all_new}
 use Rattle.std.specs.List.{list_all}

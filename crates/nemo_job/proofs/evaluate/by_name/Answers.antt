@@ -4,7 +4,7 @@ use Rattle.std.specs.Cmp.{nat_cmp_total}
 use Rattle.std.specs.Cmp.Lexicographic.{lists_total}
 use Rattle.std.specs.Ordering.{is_lt}
 use Rattle.nemo_value.specs.declared.record.SinkRows.{SinkRows}
-use Rattle.nemo_job.specs.Sinks.{by_name}
+use Rattle.nemo_value.specs.SinkOrder.{by_name}
 use Rattle.nemo_job.proofs.NamedSinks.{only_by_name}
 use Rattle.nemo_job.proofs.evaluate.by_name.Goals as goal
 

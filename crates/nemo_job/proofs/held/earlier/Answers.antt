@@ -1,6 +1,6 @@
 use Rattle.std.proofs.Common.{◌∙◌, ap, sym, Some}
 use Rattle.std.specs.Prelude.{option_map}
-use Rattle.nemo_job.specs.ByPlace.{place_cmp}
+use Rattle.nemo_transform.specs.ArisenOrder.{place_cmp}
 use Rattle.nemo_job.specs.Held.{lesser, arisen_at}
 use Rattle.nemo_job.proofs.FirstFaults.{least_is}
 use Rattle.nemo_job.proofs.held.earlier.Goals as goal

@@ -1,15 +1,15 @@
 -- What a flat job gives to its sinks.
 use Rattle.std.specs.Prelude.{ℕ, List, [], map, Option, Some, None, slice_get}
 use Rattle.std.specs.List.{filter_map, flat_map}
+use Rattle.nemo_base.specs.Places.{map_at}
 use Rattle.nemo_value.specs.Ascending.{ascending}
+use Rattle.nemo_value.specs.SinkOrder.{in_order}
 use Rattle.nemo_value.specs.declared.record.SinkRows.{SinkRows}
+use Rattle.nemo_transform.specs.ArisenOrder.{place_cmp}
 use Rattle.nemo_transform.specs.Brought.{Arisen}
 use Rattle.nemo_ir.specs.Flat.{FlatForm, sink_name, transform_of}
 use Rattle.nemo_ir.specs.Value.{ByNumber, value}
 use Rattle.nemo_ir.specs.declared.flat.FlatVertex.{FlatVertex}
-use Rattle.nemo_job.specs.ByPlace.{place_cmp}
-use Rattle.nemo_job.specs.Sinks.{in_order}
-use Rattle.nemo_base.specs.Numbered.{map_at}
 
 -- what reaches the sink of a name
 pub record Reached : Type 0 where
