@@ -1,5 +1,5 @@
 -- The tasks of a vertex stand for the flat vertices whose Op it passes on, or is.
-use Rattle.std.proofs.Common.{arith, ◌≡◌, ◌∙◌, ap, sym, subst, refl, ℕ, zero, suc, ◌+◌, ◌<◌, List, [], ◌∷◌, map, length, slice_get, true, Some}
+use Rattle.std.proofs.Common.{arith, ◌≡◌, ◌∙◌, ap, sym, subst, refl, ℕ, zero, suc, ◌<◌, List, [], ◌∷◌, map, length, slice_get, true, Some}
 use Rattle.std.specs.List.{list_all}
 use Rattle.std.specs.Cmp.{second_so}
 use Rattle.std.proofs.lemmas.Option.{slice_get_within}

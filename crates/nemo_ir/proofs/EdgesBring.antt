@@ -5,7 +5,6 @@ use Rattle.nemo_base.specs.declared.annotation.Pattern.{Pattern}
 use Rattle.nemo_base.specs.declared.annotation.Pattern.TheVariants.{OneToOne, Broadcast, Hash, Spread}
 use Rattle.nemo_value.specs.Counted.{below, counted}
 use Rattle.nemo_value.specs.Members.{SameMembers}
-use Rattle.nemo_value.specs.declared.field.Field.{Field}
 use Rattle.nemo_value.proofs.JoinedLists.{flat_over_map}
 use Rattle.nemo_value.proofs.MemberLists.{same_each}
 use Rattle.nemo_value.proofs.Perm.{Perm, from_std, then, to_std}
