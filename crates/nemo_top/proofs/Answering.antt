@@ -46,17 +46,12 @@ at_most bytes h =
     let below : length bytes < 33554433 = lt_of_not-le (λ le. h (omega (arith, le))) in
     omega (arith, below)
 
-refused_answers : (call : Call) (end : ReadRefused) (bytes : List ℕ) → Asked call → Consumes call.before call.after bytes → (end ≡ read.TooLong → 33554432 < length bytes) → (33554432 < length bytes → end ≡ read.TooLong)
+pub refused_answers : (call : Call) (end : ReadRefused) (bytes : List ℕ) → Asked call → Consumes call.before call.after bytes → (end ≡ read.TooLong → 33554432 < length bytes) → (33554432 < length bytes → end ≡ read.TooLong)
     → (end ≡ read.Failed → Rose call.faults_before call.faults_after) → ((end ≡ read.Failed → ⊥) → call.faults_after ≡ call.faults_before)
     → Answers call (of_read end) [] (status_text (of_read end))
 refused_answers call read.Failed bytes asked taken long short failed kept = (asked, bytes, record { taken = taken; few = at_most bytes (λ many. cc (short many)); rose = failed refl }, is_alone ReadFault)
 refused_answers call read.TooLong bytes asked taken long short failed kept = (asked, bytes, record { taken = taken; many = long refl; well = kept (λ e. cc e) }, is_alone TooLong)
 refused_answers call read.NoMemory bytes asked taken long short failed kept = (asked, bytes, record { taken = taken; few = at_most bytes (λ many. cc (short many)); well = kept (λ e. cc e) }, is_alone NoMemory)
-
-pub refusal_answers : (call : Call) (end : ReadRefused) (status : Status) (bytes : List ℕ) → status ≡ of_read end → Asked call → Consumes call.before call.after bytes → (end ≡ read.TooLong → 33554432 < length bytes) → (33554432 < length bytes → end ≡ read.TooLong)
-    → (end ≡ read.Failed → Rose call.faults_before call.faults_after) → ((end ≡ read.Failed → ⊥) → call.faults_after ≡ call.faults_before)
-    → Answers call status [] (status_text status)
-refusal_answers call end status bytes is asked taken long short failed kept = subst (λ s. Answers call s [] (status_text s)) (sym is) (refused_answers call end bytes asked taken long short failed kept)
 
 ---- a status that stands alone
 

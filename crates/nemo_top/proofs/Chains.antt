@@ -39,7 +39,7 @@ served_chain d b h filled =
     both_true (second_so (has_none_of unserved_members d) (is_chain b.job) (first_so (has_none_of unserved_members d && is_chain b.job) (is_single_if_any b.dag) h)) filled
 
 -- its flat job is a line
-chain_line : (b : Bundle) → is_built b.job ≡ true → b.flat ≡ flat_of b.job → IsLine b.flat
+pub chain_line : (b : Bundle) → is_built b.job ≡ true → b.flat ≡ flat_of b.job → IsLine b.flat
 chain_line b built flat = subst IsLine (sym (flat ∙ (chain_is b.job built).flat)) (line_of 0 (names_of b.job))
 
 -- Ops of one task have the parallelism of the first

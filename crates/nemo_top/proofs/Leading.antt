@@ -1,5 +1,6 @@
 -- From what a command does with a bundle to what bytes lead to.
 use Rattle.std.proofs.Common.{◌≡◌, refl, sym, subst, ◌∙◌, ℕ, List, [], ◌++◌, true, Result, Ok, Err, Some, slice_get}
+use Rattle.std.specs.Result.{IsErrAnd}
 use Rattle.serde_json.specs.Data.{Data}
 use Rattle.nemo_bundle.specs.Answers.{Gives, Refusal, on_ok}
 use Rattle.nemo_bundle.specs.Read.{bundle_of, job_in}
@@ -34,6 +35,11 @@ use Rattle.nemo_top.specs.declared.word.Command.TheVariants.{Eval, Check, Solo}
 pub is_alone : (status : Status) → Alone status [] (status_text status)
 is_alone status = record { without = refl; line = refl }
 
+-- what an error that was passed on reaches
+pub ends_in : (r : Result Reached Status) (P : Status → List Event → List ℕ → Type 0) (status : Status) → IsErrAnd r (λ s. s ≡ status) → P status [] (status_text status) → Reaches r P
+ends_in (Ok reached) P status h p = absurd h
+ends_in (Err s) P status h p = subst (λ x. P x [] (status_text x)) (sym h) p
+
 ---- a bundle
 
 end_leads : (command : Command) (bytes : List ℕ) (b : Bundle) (status : Status) (log : List Event) (text : List ℕ) → IsBundle command bytes b → Ends command b status log text → Leads command bytes status log text
@@ -57,30 +63,20 @@ ends_lead command d b (Err status) is h bytes json = end_leads command bytes b s
 ---- no bundle
 
 -- what is no bundle is refused
-refused_leads : (command : Command) (d : Data) (end : BundleEnd) → Gives {X = Bundle} (Err end) (bundle_for command d) → (bytes : List ℕ) → IsJson bytes d → Leads command bytes (of_bundle end) [] (status_text (of_bundle end))
+pub refused_leads : (command : Command) (d : Data) (end : BundleEnd) → Gives {X = Bundle} (Err end) (bundle_for command d) → (bytes : List ℕ) → IsJson bytes d → Leads command bytes (of_bundle end) [] (status_text (of_bundle end))
 refused_leads command d (bundle.Refused code place) h bytes json = ((d, json, h), is_alone (BundleRefused code place))
 refused_leads command d bundle.NoMemory h bytes json = is_alone NoMemory
 
-pub refusal_leads : (command : Command) (d : Data) (end : BundleEnd) (status : Status) → status ≡ of_bundle end → Gives {X = Bundle} (Err end) (bundle_for command d)
-    → (bytes : List ℕ) → IsJson bytes d → Leads command bytes status [] (status_text status)
-refusal_leads command d end status is h bytes json = subst (λ s. Leads command bytes s [] (status_text s)) (sym is) (refused_leads command d end h bytes json)
-
 -- nor is what is no JSON
-no_value : (command : Command) (bytes : List ℕ) (end : ParseEnd) → IsParseEnd bytes end → Leads command bytes (of_parse end) [] (status_text (of_parse end))
+pub no_value : (command : Command) (bytes : List ℕ) (end : ParseEnd) → IsParseEnd bytes end → Leads command bytes (of_parse end) [] (status_text (of_parse end))
 no_value command bytes parse.NotJson h = (h, is_alone NotJson)
 no_value command bytes parse.NoMemory h = is_alone NoMemory
 
-pub no_value_leads : (command : Command) (bytes : List ℕ) (end : ParseEnd) (status : Status) → status ≡ of_parse end → IsParseEnd bytes end → Leads command bytes status [] (status_text status)
-no_value_leads command bytes end status is h = subst (λ s. Leads command bytes s [] (status_text s)) (sym is) (no_value command bytes end h)
-
 ---- no valid DAG
 
-dag_ends : (command : Command) (b : Bundle) (end : CheckEnd) → looks_at_dag command ≡ true → IsDagEnd b end → Ends command b (of_check end) [] (status_text (of_check end))
+pub dag_ends : (command : Command) (b : Bundle) (end : CheckEnd) → looks_at_dag command ≡ true → IsDagEnd b end → Ends command b (of_check end) [] (status_text (of_check end))
 dag_ends command b (check.Refused clause index) looks h = (looks, h, is_alone (DagRefused clause index))
 dag_ends command b check.NoMemory looks h = is_alone NoMemory
-
-pub dag_end_ends : (command : Command) (b : Bundle) (end : CheckEnd) (status : Status) → status ≡ of_check end → looks_at_dag command ≡ true → IsDagEnd b end → Ends command b status [] (status_text status)
-dag_end_ends command b end status is looks h = subst (λ s. Ends command b s [] (status_text s)) (sym is) (dag_ends command b end looks h)
 
 ---- the job alone
 
@@ -95,9 +91,8 @@ refused_under (Err r) (bundle.Refused code place) h = cc
 refused_under r bundle.NoMemory h = tt
 
 -- no job
-pub no_job_leads : (d : Data) (end : BundleEnd) (status : Status) → status ≡ of_bundle end → Gives {X = List JobVertex} (Err end) (job_in d)
-    → (bytes : List ℕ) → IsJson bytes d → Leads Eval bytes status [] (status_text status)
-no_job_leads d end status is h bytes json = refusal_leads Eval d end status is (refused_under (bundle_of d) end h) bytes json
+pub no_job_leads : (d : Data) (end : BundleEnd) → Gives {X = List JobVertex} (Err end) (job_in d) → (bytes : List ℕ) → IsJson bytes d → Leads Eval bytes (of_bundle end) [] (status_text (of_bundle end))
+no_job_leads d end h bytes json = refused_leads Eval d end (refused_under (bundle_of d) end h) bytes json
 
 -- a job of which this holds
 job_leads : (d : Data) (vs : List JobVertex) (status : Status) (log : List Event) (text : List ℕ) → job_in d ≡ Ok vs → ((b : Bundle) → b.job ≡ vs → Ends Eval b status log text)
@@ -111,10 +106,8 @@ faulty_ends b (job.Fault name kind rec) h = (h, is_alone (TransformFault name ki
 faulty_ends b job.NoMemory h = is_alone NoMemory
 
 -- its first fault
-pub fault_leads : (d : Data) (vs : List JobVertex) (end : JobEnd) (status : Status) → status ≡ of_job end → job_in d ≡ Ok vs → IsEndOf vs end
-    → (bytes : List ℕ) → IsJson bytes d → Leads Eval bytes status [] (status_text status)
-fault_leads d vs end status is given h bytes json =
-    subst (λ s. Leads Eval bytes s [] (status_text s)) (sym is) (job_leads d vs (of_job end) [] (status_text (of_job end)) given (λ b same. faulty_ends b end (subst (λ xs. IsEndOf xs end) (sym same) h)) bytes json)
+pub fault_leads : (d : Data) (vs : List JobVertex) (end : JobEnd) → job_in d ≡ Ok vs → IsEndOf vs end → (bytes : List ℕ) → IsJson bytes d → Leads Eval bytes (of_job end) [] (status_text (of_job end))
+fault_leads d vs end given h bytes json = job_leads d vs (of_job end) [] (status_text (of_job end)) given (λ b same. faulty_ends b end (subst (λ xs. IsEndOf xs end) (sym same) h)) bytes json
 
 -- the rows of its sinks
 pub rows_lead : (d : Data) (vs : List JobVertex) (text : List ℕ) → job_in d ≡ Ok vs → job_faults vs ≡ [] → text ≡ text_of (sinks_lines (job_rows vs) ++ last_lines Done)

@@ -1,5 +1,5 @@
 -- The run of a bundle.
-use Rattle.std.proofs.Common.{◌≡◌, ◌∙◌, ap, sym, subst, List, [], ◌++◌, true}
+use Rattle.std.proofs.Common.{◌≡◌, ◌∙◌, ap, sym, subst, List, [], ◌++◌, true, Result, Ok, Err, IfOk}
 use Rattle.nemo_base.specs.declared.script.ScriptLine.{ScriptLine}
 use Rattle.nemo_bundle.specs.Choices.{AreInRange}
 use Rattle.nemo_bundle.specs.declared.bundle.Bundle.{Bundle}
@@ -18,6 +18,7 @@ use Rattle.nemo_laws.specs.Written.{written}
 use Rattle.nemo_plan.specs.Form.{PlanForm}
 use Rattle.nemo_policy.proofs.ChainMain.{chain_main}
 use Rattle.nemo_policy.specs.Main.{HasMainPorts}
+use Rattle.nemo_replay.specs.declared.single.RunEnd.{RunEnd}
 use Rattle.nemo_value.specs.declared.record.SinkRows.{SinkRows}
 use Rattle.nemo_top.specs.Bundles.{dag_of, plan_of}
 use Rattle.nemo_top.specs.Ends.{IsSoloDone}
@@ -48,3 +49,15 @@ ran_solo b dag log sinks runs is valid run history committed rows = record {
   run = subst (λ lines. IsDoneRun (plan_of b) b.settings lines log) (sym runs.script) (subst (λ x. IsDoneRun (record { flat = b.flat; dag = x }) b.settings [] log) is run);
   sinks = subst (λ x. written (record { flat = b.flat; dag = x }) b.settings log ≡ job_rows b.job) is (sym committed ∙ rows ∙ same_rows b runs);
 }
+
+module _ {E : Type 0} (b : Bundle) (dag : IrDag) (p : PlanForm) (runs : IsRunnable b) (of : dag ≡ dag_of b) (valid : Valid b.flat dag) (is : p ≡ record { flat = b.flat; dag = dag }) where
+  pub ran : (r : Result RunEnd E) → IfOk r (λ end. IsDoneRun p b.settings [] end.log) → IfOk r (λ end. end.log ≡ solo_log b.settings (tasks_in p)) → IfOk r (λ end. end.sinks ≡ written p b.settings end.log) → IfOk r (λ end. end.sinks ≡ flat_rows p.flat)
+      → IfOk r (λ end. IsSoloDone b end.log)
+  ran (Ok end) run history committed rows =
+      ran_solo b dag end.log end.sinks runs of valid (subst (λ p. IsDoneRun p b.settings [] end.log) is run) (subst (λ p. end.log ≡ solo_log b.settings (tasks_in p)) is history)
+      (subst (λ p. end.sinks ≡ written p b.settings end.log) is committed) (subst (λ p. end.sinks ≡ flat_rows p.flat) is rows)
+  ran (Err e) run history committed rows = tt
+
+  pub ran_rows : (r : Result RunEnd E) → IfOk r (λ end. end.sinks ≡ flat_rows p.flat) → IfOk r (λ end. end.sinks ≡ job_rows b.job)
+  ran_rows (Ok end) rows = subst (λ p. end.sinks ≡ flat_rows p.flat) is rows ∙ same_rows b runs
+  ran_rows (Err e) rows = tt
