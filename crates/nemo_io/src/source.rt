@@ -1,8 +1,7 @@
-ghost use Rattle.std.specs.Prelude.{◌≡◌, ◌≢◌, ◌≤◌, ◌<◌, ◌-◌, ◌↔◌, ℕ, List, Option, length, IfOk, OnOk, Err};
+ghost use Rattle.std.specs.Prelude.{◌≡◌, ◌≢◌, ◌≤◌, ◌<◌, ◌↔◌, ℕ, List, Option, length, IfOk, OnOk, Err};
 ghost use Rattle.std.specs.Io.{ReadsAtMost};
 ghost use Rattle.std.specs.Io.KnownBytes.{ReadConsumes, Consumes, IsAtEnd};
 ghost use Rattle.nemo_io.specs.Faults.{HasCause, Rose};
-ghost use Rattle.nemo_io.specs.Told.{IfTold};
 
 use std::alloc::{AllocError, Global};
 
@@ -76,9 +75,8 @@ pub fn read_to_end<S: Source>(alloc: Global, source: &mut S) -> Result<Vec<u8>, 
     ensures short { IfOk result (λ v. length v.items ≤ LIMIT) }
 
     // Whatever the answer, what was taken is the next bytes of the content, and how many decides.
-    ensures taken { (bs : List ℕ) × Consumes (S.left source.old) (S.left source.new) bs }
-    ensures long { IfTold (S.left source.old) (S.left source.new) (λ before now.
-        (result ≡ Err ReadRefused.TooLong) ↔ (LIMIT < length before - length now)) }
+    ensures taken { (bytes : List ℕ) × Consumes (S.left source.old) (S.left source.new) bytes
+        × ((result ≡ Err ReadRefused.TooLong) ↔ (LIMIT < length bytes)) }
 
     // The cause of `Failed`, which is of no other answer.
     ensures failed { result ≡ Err ReadRefused.Failed

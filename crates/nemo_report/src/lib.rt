@@ -1,9 +1,9 @@
-//! The text in which the rows of sinks and a fault are printed.
+//! The lines in which the rows of sinks and a fault are printed.
 #![tactic(auto)]
 
 mod faults;
 mod lines;
 mod sinks;
 
-pub use faults::fault_text;
+pub use faults::fault_line;
 pub use sinks::sink_text;

@@ -1,5 +1,6 @@
 ghost use Rattle.std.specs.Prelude.{◌≡◌, OnOk, IfOk};
-ghost use Rattle.nemo_report.specs.Texts.{data_of, row_data, line_of};
+ghost use Rattle.nemo_report.specs.Texts.{data_of, row_data};
+ghost use Rattle.nemo_report.specs.Texts as spec;
 ghost use Rattle.nemo_report.specs.Tokens.{AddsValue};
 
 use json::Writer;
@@ -26,15 +27,13 @@ fn write_row(writer: &mut Writer, row: &Record) -> Result<(), NoMemory>
     Ok(())
 }
 
-/// The line of a row: its fields as a compact JSON array, and a newline. It takes the place of what `line` held, so that many lines need the memory of one.
-pub(crate) fn line_in(line: Vec<u8>, row: &Record) -> Result<Vec<u8>, NoMemory>
-    ensures { IfOk result (λ text. text.items ≡ line_of row.now) }
+/// The line of a row: its fields as a compact JSON array. It takes the place of what `line` held, so that many lines need the memory of one.
+pub(crate) fn row_line(line: Vec<u8>, row: &Record) -> Result<Vec<u8>, NoMemory>
+    ensures { IfOk result (λ text. text.items ≡ spec.row_line row.now) }
 {
     let mut text = line;
     text.clear();
     let mut writer = Writer::new(text);
     write_row(&mut writer, row)?;
-    let mut text = writer.into_inner();
-    text.push(b'\n')?;
-    Ok(text)
+    Ok(writer.into_inner())
 }

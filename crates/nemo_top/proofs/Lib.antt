@@ -1,5 +1,5 @@
-pub mod Following
-pub mod Ran
-pub mod Reading
-pub mod ServedChains
-pub mod Unproposed
+pub mod Answering
+pub mod Chains
+pub mod Completing
+pub mod Leading
+pub mod Running

@@ -1,4 +1,9 @@
-pub mod Outcome
+pub mod Answers
+pub mod Bundles
+pub mod Calls
+pub mod Complete
+pub mod Ends
+pub mod Reached
 pub mod Served
 pub mod Statuses
 pub mod Words

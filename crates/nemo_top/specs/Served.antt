@@ -1,14 +1,18 @@
 -- What `check` and `solo` serve for now: chains, whose DAG may be proposed as Ops of one task each; and `check` every
 -- bundle that proposes a DAG.
-use Rattle.std.specs.Prelude.{ℕ, ◌&&◌, nat_le, Bool, true, if◌then◌else◌, List, [], ◌∷◌, Option, Some, None, is_none, is_some, Result, Ok, Err, codes}
+use Rattle.std.specs.Prelude.{◌≡◌, ◌≤◌, ℕ, ◌&&◌, nat_le, Bool, true, if◌then◌else◌, List, [], ◌∷◌, Option, Some, None, is_none, is_some, IfSome, Result, Ok, Err, codes}
 use Rattle.std.specs.List.{list_all}
 use Rattle.serde_json.specs.Data.{Data}
 use Rattle.serde_json.specs.Find.{get}
+use Rattle.nemo_base.specs.declared.annotation.Policy.TheVariants.{Plain}
 use Rattle.nemo_bundle.specs.Answers.{Refusal}
+use Rattle.nemo_bundle.specs.Choices.{AreInRange}
 use Rattle.nemo_bundle.specs.declared.bundle.Bundle.{Bundle}
-use Rattle.nemo_ir.specs.Uniform.{is_uniform_edge, is_uniform_op}
+use Rattle.nemo_flat.specs.Flat.{flat_of}
+use Rattle.nemo_ir.specs.Line.{IsLine}
+use Rattle.nemo_ir.specs.Uniform.{is_uniform, is_uniform_edge, is_uniform_op}
 use Rattle.nemo_ir.specs.declared.dag.IrDag.{IrDag}
-use Rattle.nemo_job.specs.Chain.{is_chain}
+use Rattle.nemo_job.specs.Chain.{is_built, is_chain}
 
 -- the refusal of what isn't served
 abbrev pub unserved : Refusal
@@ -44,3 +48,19 @@ served d (Err r) = Err (narrowed r)
 -- where a DAG is proposed every bundle, and else one that is served
 abbrev pub checked : Data → Result Bundle Refusal → Result Bundle Refusal
 checked d r = if is_some (get (codes "dag") d) then r else served d r
+
+-- what a bundle is of which a DAG can be had: it proposes one, or the plain policy makes one of its job
+pub record HasDag (b : Bundle) : Type 0 where
+  pub some : 1 ≤ b.parallelism
+  pub few : b.parallelism ≤ 64
+  pub line : b.dag ≡ None → IsLine b.flat
+  pub plain : b.dag ≡ None → b.policy ≡ Plain
+
+-- what a bundle is that can be run
+pub record IsRunnable (b : Bundle) : Type 0 where
+  pub dag : HasDag b
+  pub chain : is_built b.job ≡ true
+  pub flat : b.flat ≡ flat_of b.job
+  pub uniform : IfSome b.dag (λ dag. is_uniform dag ≡ true)
+  pub settings : AreInRange b.settings
+  pub script : b.script ≡ []

@@ -1,5 +1,5 @@
 -- The words of the command line.
-use Rattle.std.specs.Prelude.{ℕ, List, [], ◌∷◌, Bool, Option, Some, None, is_some, codes, if◌then◌else◌}
+use Rattle.std.specs.Prelude.{ℕ, List, [], ◌∷◌, Option, Some, None, codes, if◌then◌else◌}
 use Rattle.nemo_value.specs.Texts.{same_text}
 use Rattle.nemo_top.specs.declared.word.Command.{Command}
 use Rattle.nemo_top.specs.declared.word.Command.TheVariants.{Eval, Check, Solo}
@@ -16,6 +16,3 @@ named word =
 abbrev pub command_of : List (List ℕ) → Option Command
 command_of (word ∷ []) = named word
 command_of _ = None
-
-abbrev pub is_command : List (List ℕ) → Bool
-is_command words = is_some (command_of words)

@@ -1,12 +1,16 @@
 ghost use Rattle.std.specs.Prelude.{◌≡◌, ◌≢◌, ℕ, List};
 ghost use Rattle.std.specs.Io.KnownBytes.{Appends};
+ghost use Rattle.nemo_bundle.specs.declared.bundle.Bundle.{Bundle};
 ghost use Rattle.nemo_io.specs.Faults.{Rose};
 ghost use Rattle.nemo_io.specs.Told.{AppendsPart};
-ghost use Rattle.nemo_top.specs.Outcome.{Answers, call_of};
+ghost use Rattle.nemo_top.specs.Answers.{Answers};
+ghost use Rattle.nemo_top.specs.Calls.{call_of};
+ghost use Rattle.nemo_top.specs.Complete.{Brings, Completes};
 ghost use Rattle.nemo_top.specs.declared.status.Status.{Status};
+ghost use Rattle.nemo_top.specs.declared.word.Command.{Command};
 
-use crate::lines::Reached;
 use crate::reach::reach;
+use crate::reached::Reached;
 use crate::status::{Ended, Status};
 use crate::word::Word;
 use nemo_io::{Failed, Sink, Source, write_all};
@@ -33,6 +37,11 @@ pub fn nemo_plain<S: Source, K: Sink>(
     ensures part { let call = call_of words.now (S.left source.old) (S.left source.new) (S.faults source.old) (S.faults source.new) in
         result.status ≡ Status.WriteFault → (reached : Status) × (text : List ℕ) × Answers call reached result.log text × AppendsPart (K.given sink.old) (K.given sink.new) text }
     ensures write_fault { result.status ≡ Status.WriteFault → Rose (K.faults sink.old) (K.faults sink.new) }
+
+    // Where no read and no write fails, and the content is a bundle whose DAG, if it proposes one, is valid, the command
+    // ends as asked or by the first fault of the job, or memory runs out.
+    ensures complete { (command : Command) → (bundle : Bundle) → Brings words.now (S.left source.old) command bundle
+        → ¬ Rose (S.faults source.old) (S.faults source.new) → ¬ Rose (K.faults sink.old) (K.faults sink.new) → Completes command bundle result.status }
 {
     let Reached { status, log, text } = reach(alloc, words, source);
     let status = match write_all(sink, text.as_slice()) {

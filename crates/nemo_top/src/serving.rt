@@ -1,14 +1,12 @@
-ghost use Rattle.std.specs.Prelude.{◌≡◌, ◌≤◌, true, is_none, None, IfOk, IfSome};
+ghost use Rattle.std.specs.Prelude.{◌≡◌, is_none, IfOk};
 ghost use Rattle.std.specs.List.{list_all};
 ghost use Rattle.serde_json.specs.Find.{get};
 ghost use Rattle.serde_json.specs.View.{view};
 ghost use Rattle.nemo_bundle.specs.Answers.{Gives};
 ghost use Rattle.nemo_bundle.specs.Read.{bundle_of};
-ghost use Rattle.nemo_flat.specs.Flat.{flat_of};
-ghost use Rattle.nemo_ir.specs.Line.{IsLine};
 ghost use Rattle.nemo_ir.specs.Uniform as uniform;
-ghost use Rattle.nemo_ir.specs.Uniform.{is_uniform};
-ghost use Rattle.nemo_job.specs.Chain.{is_built};
+ghost use Rattle.nemo_bundle.specs.declared.end.BundleEnd.{BundleEnd};
+ghost use Rattle.nemo_top.specs.Served.{HasDag, IsRunnable};
 ghost use Rattle.nemo_top.specs.Served as spec;
 
 use nemo_base::{Class, Flow, Keep, Pattern};
@@ -32,30 +30,34 @@ const UNSERVED_MEMBERS: [&str; 5] = ["cluster", "policy", "settings", "script", 
 /// has Ops of one task. What has another refusal than codes 1 and 2 isn't served.
 pub(crate) fn read_served(alloc: Global, value: Value) -> Result<Bundle, BundleEnd>
     ensures bundle { Gives result (spec.served (view value) (bundle_of (view value))) }
-    ensures tasks { IfOk result (λ b. (1 ≤ b.parallelism) × (b.parallelism ≤ 64)) }
-    ensures chain { IfOk result (λ b. is_built b.job ≡ true) }
-    ensures flat { IfOk result (λ b. b.flat ≡ flat_of b.job) }
-    ensures line { IfOk result (λ b. IsLine b.flat) }
-    ensures uniform { IfOk result (λ b. IfSome b.dag (λ dag. is_uniform dag ≡ true)) }
+    ensures runnable { IfOk result IsRunnable }
 {
     match read_bundle(alloc, &value) {
-        Ok(bundle) => {
-            if is_served(alloc, &value, &bundle)? {
-                Ok(bundle)
-            } else {
-                Err(UNSERVED)
-            }
-        }
-        Err(BundleEnd::Refused { code, .. }) if code > VERTEX_SHAPE => Err(UNSERVED),
-        Err(end) => Err(end),
+        Ok(bundle) => match is_served(alloc, &value, &bundle) {
+            Ok(true) => Ok(bundle),
+            Ok(false) => Err(UNSERVED),
+            Err(NoMemory) => Err(BundleEnd::NoMemory),
+        },
+        Err(BundleEnd::Refused { code, place }) => Err(narrowed(code, place)),
+        Err(BundleEnd::NoMemory) => Err(BundleEnd::NoMemory),
+    }
+}
+
+/// A refusal of codes 1 and 2, or that of what isn't served.
+fn narrowed(code: u32, place: u64) -> BundleEnd
+    ensures { let refusal = spec.narrowed (record { code = code; place = place }) in result ≡ BundleEnd.Refused refusal.code refusal.place }
+{
+    if code > VERTEX_SHAPE {
+        UNSERVED
+    } else {
+        BundleEnd::Refused { code, place }
     }
 }
 
 /// The bundle that `check` reads: any that proposes a DAG, and else one that is served.
 pub(crate) fn read_checked(alloc: Global, value: Value) -> Result<Bundle, BundleEnd>
     ensures bundle { Gives result (spec.checked (view value) (bundle_of (view value))) }
-    ensures tasks { IfOk result (λ b. (1 ≤ b.parallelism) × (b.parallelism ≤ 64)) }
-    ensures line { IfOk result (λ b. b.dag ≡ None → IsLine b.flat) }
+    ensures dag { IfOk result HasDag }
 {
     if value.get("dag").is_some() {
         read_bundle(alloc, &value)

@@ -1,11 +1,15 @@
 ghost use Rattle.std.specs.Prelude.{◌≡◌};
 ghost use Rattle.nemo_top.specs.Statuses.{number_of};
 
+use nemo_bundle::BundleEnd;
+use nemo_check::CheckEnd;
 use nemo_core::Event;
-use nemo_value::{Kind, List, Record, Text};
+use nemo_io::ReadRefused;
+use nemo_job::JobEnd;
+use nemo_value::{Kind, List, NoMemory, Record, Text};
 
 /// How a call ended.
-#[derive(Debug, PartialEq, Eq, Drop)]
+#[derive(Drop)]
 pub enum Status {
     /// The command ended as asked.
     Done,
@@ -30,7 +34,7 @@ pub enum Status {
 }
 
 /// What a call answers: how it ended, and the history of the run, which is empty where nothing ran.
-#[derive(Debug, Drop)]
+#[derive(Drop)]
 pub struct Ended {
     pub status: Status,
     pub log: List<Event>,
@@ -52,6 +56,74 @@ impl Status {
             Status::DagRefused { .. } => 8,
             Status::TransformFault { .. } => 9,
             Status::NoMemory => 13,
+        }
+    }
+}
+
+impl From<NoMemory> for Status {
+    ghost use Rattle.std.specs.Prelude.{◌≡◌};
+    ghost use Rattle.nemo_top.specs.declared.status.Status.TheVariants.{NoMemory};
+
+    ghost from_gives = { λ _ status. status ≡ NoMemory };
+
+    fn from(_e: NoMemory) -> Status {
+        Status::NoMemory
+    }
+}
+
+impl From<ReadRefused> for Status {
+    ghost use Rattle.std.specs.Prelude.{◌≡◌};
+    ghost use Rattle.nemo_top.specs.Reached.{of_read};
+
+    ghost from_gives = { λ refused status. status ≡ of_read refused };
+
+    fn from(refused: ReadRefused) -> Status {
+        match refused {
+            ReadRefused::Failed => Status::ReadFault,
+            ReadRefused::TooLong => Status::TooLong,
+            ReadRefused::NoMemory => Status::NoMemory,
+        }
+    }
+}
+
+impl From<BundleEnd> for Status {
+    ghost use Rattle.std.specs.Prelude.{◌≡◌};
+    ghost use Rattle.nemo_top.specs.Reached.{of_bundle};
+
+    ghost from_gives = { λ end status. status ≡ of_bundle end };
+
+    fn from(end: BundleEnd) -> Status {
+        match end {
+            BundleEnd::Refused { code, place } => Status::BundleRefused { code, place },
+            BundleEnd::NoMemory => Status::NoMemory,
+        }
+    }
+}
+
+impl From<CheckEnd> for Status {
+    ghost use Rattle.std.specs.Prelude.{◌≡◌};
+    ghost use Rattle.nemo_top.specs.Reached.{of_check};
+
+    ghost from_gives = { λ end status. status ≡ of_check end };
+
+    fn from(end: CheckEnd) -> Status {
+        match end {
+            CheckEnd::Refused { clause, index } => Status::DagRefused { clause, index },
+            CheckEnd::NoMemory => Status::NoMemory,
+        }
+    }
+}
+
+impl From<JobEnd> for Status {
+    ghost use Rattle.std.specs.Prelude.{◌≡◌};
+    ghost use Rattle.nemo_top.specs.Reached.{of_job};
+
+    ghost from_gives = { λ end status. status ≡ of_job end };
+
+    fn from(end: JobEnd) -> Status {
+        match end {
+            JobEnd::Fault { name, kind, rec } => Status::TransformFault { name, kind, rec },
+            JobEnd::NoMemory => Status::NoMemory,
         }
     }
 }

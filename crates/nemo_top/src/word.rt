@@ -4,7 +4,7 @@ ghost use Rattle.nemo_top.specs.Words as spec;
 use std::marker::Model;
 
 /// One word of the command line. Contracts see its bytes.
-#[derive(Debug, Drop)]
+#[derive(Drop)]
 pub struct Word {
     inner: String,
 }
@@ -32,7 +32,7 @@ impl Word {
 }
 
 /// What the program is asked to do.
-#[derive(Clone, Copy, Debug, PartialEq, Eq)]
+#[derive(Clone, Copy)]
 pub enum Command {
     /// To evaluate the job and print its sinks.
     Eval,

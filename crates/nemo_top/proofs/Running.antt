@@ -1,0 +1,63 @@
+-- The run of a bundle.
+use Rattle.std.proofs.Common.{◌≡◌, ◌∙◌, ap, sym, subst, List, [], ◌++◌, true, Result, Ok, Err, IfOk}
+use Rattle.nemo_base.specs.declared.script.ScriptLine.{ScriptLine}
+use Rattle.nemo_bundle.specs.Choices.{AreInRange}
+use Rattle.nemo_bundle.specs.declared.bundle.Bundle.{Bundle}
+use Rattle.nemo_base.specs.declared.settings.Settings.{Settings}
+use Rattle.nemo_core.specs.declared.event.Event.{Event}
+use Rattle.nemo_flat.proofs.ChainValue.{keeps_faults, keeps_none, keeps_rows}
+use Rattle.nemo_flat.specs.Flat.{IsChainForm, flat_of}
+use Rattle.nemo_ir.specs.Meaning.{flat_rows}
+use Rattle.nemo_ir.specs.Valid.{Valid}
+use Rattle.nemo_ir.specs.Flat.{FlatForm}
+use Rattle.nemo_ir.specs.declared.dag.IrDag.{IrDag}
+use Rattle.nemo_job.specs.Sinks.{job_rows}
+use Rattle.nemo_laws.specs.Done.{IsDoneRun, IsRange}
+use Rattle.nemo_laws.specs.Solo.{solo_log, tasks_in}
+use Rattle.nemo_laws.specs.Written.{written}
+use Rattle.nemo_plan.specs.Form.{PlanForm}
+use Rattle.nemo_policy.proofs.ChainMain.{chain_main}
+use Rattle.nemo_policy.specs.Main.{HasMainPorts}
+use Rattle.nemo_replay.specs.declared.single.RunEnd.{RunEnd}
+use Rattle.nemo_value.specs.declared.record.SinkRows.{SinkRows}
+use Rattle.nemo_top.specs.Bundles.{dag_of, plan_of}
+use Rattle.nemo_top.specs.Ends.{IsSoloDone}
+use Rattle.nemo_top.specs.Served.{IsRunnable}
+
+-- the flat job of a chain
+pub chain_form : (b : Bundle) → IsRunnable b → IsChainForm b.flat
+chain_form b runs = (b.job, runs.chain, runs.flat)
+
+pub main_ports : (b : Bundle) → IsRunnable b → HasMainPorts b.flat
+main_ports b runs = subst HasMainPorts (sym runs.flat) (chain_main b.job runs.chain)
+
+pub in_range : (k : Settings) → AreInRange k → IsRange k
+in_range k r = record { reserved = r.reserved; slots = r.slots; bound = r.loss_bound.0 }
+
+-- its sinks get what the job gives them
+pub same_rows : (b : Bundle) → IsRunnable b → flat_rows b.flat ≡ job_rows b.job
+same_rows b runs = ap flat_rows runs.flat ∙ keeps_rows b.job runs.chain
+
+-- the run of its plan is that of the bundle
+pub ran_solo : (b : Bundle) (dag : IrDag) (log : List Event) (sinks : List SinkRows) → IsRunnable b → dag ≡ dag_of b → Valid b.flat dag
+    → IsDoneRun (record { flat = b.flat; dag = dag }) b.settings [] log → log ≡ solo_log b.settings (tasks_in (record { flat = b.flat; dag = dag }))
+    → sinks ≡ written (record { flat = b.flat; dag = dag }) b.settings log → sinks ≡ flat_rows b.flat → IsSoloDone b log
+ran_solo b dag log sinks runs is valid run history committed rows = record {
+  faultless = sym (keeps_faults b.job runs.chain) ∙ keeps_none b.job runs.chain;
+  valid = subst (Valid b.flat) is valid;
+  history = history ∙ ap (λ x. solo_log b.settings (tasks_in (record { flat = b.flat; dag = x }))) is;
+  run = subst (λ lines. IsDoneRun (plan_of b) b.settings lines log) (sym runs.script) (subst (λ x. IsDoneRun (record { flat = b.flat; dag = x }) b.settings [] log) is run);
+  sinks = subst (λ x. written (record { flat = b.flat; dag = x }) b.settings log ≡ job_rows b.job) is (sym committed ∙ rows ∙ same_rows b runs);
+}
+
+module _ {E : Type 0} (b : Bundle) (dag : IrDag) (p : PlanForm) (runs : IsRunnable b) (of : dag ≡ dag_of b) (valid : Valid b.flat dag) (is : p ≡ record { flat = b.flat; dag = dag }) where
+  pub ran : (r : Result RunEnd E) → IfOk r (λ end. IsDoneRun p b.settings [] end.log) → IfOk r (λ end. end.log ≡ solo_log b.settings (tasks_in p)) → IfOk r (λ end. end.sinks ≡ written p b.settings end.log) → IfOk r (λ end. end.sinks ≡ flat_rows p.flat)
+      → IfOk r (λ end. IsSoloDone b end.log)
+  ran (Ok end) run history committed rows =
+      ran_solo b dag end.log end.sinks runs of valid (subst (λ p. IsDoneRun p b.settings [] end.log) is run) (subst (λ p. end.log ≡ solo_log b.settings (tasks_in p)) is history)
+      (subst (λ p. end.sinks ≡ written p b.settings end.log) is committed) (subst (λ p. end.sinks ≡ flat_rows p.flat) is rows)
+  ran (Err e) run history committed rows = tt
+
+  pub ran_rows : (r : Result RunEnd E) → IfOk r (λ end. end.sinks ≡ flat_rows p.flat) → IfOk r (λ end. end.sinks ≡ job_rows b.job)
+  ran_rows (Ok end) rows = subst (λ p. end.sinks ≡ flat_rows p.flat) is rows ∙ same_rows b runs
+  ran_rows (Err e) rows = tt

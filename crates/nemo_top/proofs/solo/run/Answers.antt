@@ -1,0 +1,14 @@
+use Rattle.nemo_top.proofs.Chains.{chain_line}
+use Rattle.nemo_top.proofs.Running.{ran, ran_rows}
+use Rattle.nemo_top.proofs.solo.run.Goals as goal
+
+pub new-requires-clause-line : goal.new-requires-clause-line
+new-requires-clause-line c = chain_line c.args.bundle c.requires.bundle.chain c.requires.bundle.flat
+
+pub returns-clause-done : goal.returns-clause-done
+returns-clause-done c =
+    let e = c.solo.ensures in
+    ran c.args.bundle c.args.dag _ c.requires.bundle c.requires.dag c.requires.valid c.in_ok-plan.ensures.plan c.solo.result e.run e.log e.committed e.sinks
+
+pub returns-clause-sinks : goal.returns-clause-sinks
+returns-clause-sinks c = ran_rows c.args.bundle c.args.dag _ c.requires.bundle c.requires.dag c.requires.valid c.in_ok-plan.ensures.plan c.solo.result c.solo.ensures.sinks
