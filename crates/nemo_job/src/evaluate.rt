@@ -8,10 +8,9 @@ ghost use Rattle.nemo_transform.specs.ArisenOrder.{place_cmp};
 ghost use Rattle.nemo_job.specs.Ends.{IsEndOf, fault_end};
 ghost use Rattle.nemo_job.specs.Held.{IsGiven, IsHeld, IsLast, IsPlaced, arisen_at, faults_given, known, lesser, node_of, sink_at, sinks_given};
 ghost use Rattle.nemo_job.specs.Nodes.{copy_of};
-ghost use Rattle.nemo_job.specs.Sinks as spec;
 ghost use Rattle.nemo_job.specs.Sinks.{job_rows, job_faults};
 ghost use Rattle.nemo_transform.specs.Sinks.{does_sink};
-ghost use Rattle.nemo_value.specs.SinkOrder.{with_sorted};
+ghost use Rattle.nemo_value.specs.SinkOrder.{by_name, with_sorted};
 ghost use Rattle.nemo_job.specs.Unrolled.{path_in};
 
 use crate::copies::Node;
