@@ -53,26 +53,26 @@ trigger_sample k s given u tasks = flat_map (λ j. sampled k.sample 0 (given_by 
 abbrev pub counts_of : List Row → List ℕ
 counts_of rows = map (λ b. count_by (λ r. bucket_of (key r) == b) rows) (below 256)
 
-abbrev pub tasks_in : Option VertexRow → ℕ
-tasks_in (Some row) = row.parallelism
-tasks_in None = 0
+abbrev pub row_tasks : Option VertexRow → ℕ
+row_tasks (Some row) = row.parallelism
+row_tasks None = 0
 
-abbrev pub triggers_in : Option VertexRow → List ℕ
-triggers_in (Some row) = row.triggers
-triggers_in None = []
+abbrev pub row_triggers : Option VertexRow → List ℕ
+row_triggers (Some row) = row.triggers
+row_triggers None = []
 
 abbrev pub row_of : PlanForm → ℕ → Option VertexRow
 row_of p v = slice_get (graph p).vertices v
 
 -- over each Trigger in-edge of a vertex
 abbrev pub sample : PlanForm → Settings → State → List Given → ℕ → List Row
-sample p k s given v = flat_map (λ u. trigger_sample k s given u (tasks_in (row_of p u))) (triggers_in (row_of p v))
+sample p k s given v = flat_map (λ u. trigger_sample k s given u (row_tasks (row_of p u))) (row_triggers (row_of p v))
 
 -- what an event says of the data is true
 abbrev pub IsHonest : PlanForm → Settings → State → List Given → Event → Type 0
 IsHonest p k s given (Commit a) = Faultless p (given_by given a)
 IsHonest p k s given (Fault a x kind rec) = FirstFault p (given_by given a) (record { vertex = x; kind = kind; rec = rec })
-IsHonest p k s given (Decide v cuts) = IsLeastCuts (counts_of (sample p k s given v)) (tasks_in (row_of p v)) cuts
+IsHonest p k s given (Decide v cuts) = IsLeastCuts (counts_of (sample p k s given v)) (row_tasks (row_of p v)) cuts
 IsHonest p k s given _ = Unit {0}
 
 abbrev pub LegalFrom : PlanForm → Settings → State → List Given → List Event → Type 0

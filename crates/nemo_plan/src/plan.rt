@@ -1,5 +1,6 @@
 ghost use Rattle.std.specs.Prelude.{◌≡◌, ◌<◌, true, IfOk};
 ghost use Rattle.nemo_base.specs.Sound.{is_sound};
+ghost use Rattle.nemo_ir.specs.Flat.{IsFlat};
 ghost use Rattle.nemo_ir.specs.Line.{IsLine};
 ghost use Rattle.nemo_ir.specs.Rewrites.{Computes, IsLocal};
 ghost use Rattle.nemo_ir.specs.Uniform.{is_uniform};
@@ -68,7 +69,8 @@ impl Plan {
     }
 
     pub fn flat(&self) -> &FlatJob
-        ensures { result.now ≡ self.now.flat }
+        ensures flat { result.now ≡ self.now.flat }
+        ensures keeps { IsFlat self.now.flat }
     {
         &self.flat
     }
