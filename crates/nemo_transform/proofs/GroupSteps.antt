@@ -14,7 +14,9 @@ use Rattle.nemo_value.specs.declared.expr.Kind.{Kind}
 use Rattle.nemo_value.specs.declared.field.Field.{Field}
 use Rattle.nemo_value.proofs.AscendingLists.{Rises}
 use Rattle.nemo_transform.specs.Folds.{KnownGroup, known, known_group, folding_of, with_read, why, size, start_of}
-use Rattle.nemo_transform.specs.Gives.{Row, with_key, read, answers, rows_in, fault_in, own_faults}
+use Rattle.nemo_transform.specs.FirstField.{with_first}
+use Rattle.nemo_transform.specs.Gives.{Row, keyless, read, answers, rows_in, fault_in, own_faults}
+use Rattle.nemo_value.specs.Key.{first_key}
 use Rattle.nemo_transform.specs.Groups.{goods, read_at, made, group_of, fault_read, fault_of, at_key, key_of, seen, answer_at}
 use Rattle.nemo_transform.specs.FaultOrder.{fault_cmp}
 use Rattle.nemo_transform.specs.declared.transform.Transform.TheVariants.{Reduce}
@@ -26,7 +28,7 @@ use Rattle.nemo_transform.proofs.FoldSteps.{made_nothing, made_more, folding_of_
 use Rattle.nemo_transform.proofs.GroupEntries.{grouped, entries_are, seen_lookup, seen_keys}
 use Rattle.nemo_transform.proofs.Keeping.{take_item}
 use Rattle.nemo_transform.proofs.ReduceAnswers.{rows_from_groups, faults_from_groups}
-use Rattle.nemo_transform.proofs.RowsByKey.{with_key-more}
+use Rattle.nemo_transform.proofs.RowsByKey.{with_first-more}
 
 -- a group that isn't further than n from 0
 abbrev pub small_in : ℕ → Option Group → Type 0
@@ -73,15 +75,15 @@ module _ (by : Folding) (field : ℕ) (us : List Row) (n : ℕ) (start old : Gro
 -- what stands at each key, with a row more
 pub kept_more : (by : Folding) (field : ℕ) (rows : List Row) (i : ℕ) (r : Row) (k q : Field) (start old new : Group) (look : Field → Option Group) (now : Option Group) (n m : ℕ)
     → i < length rows → r ≡ get_or rows i r → slice_get r 0 ≡ Some k
-    → ((p : Field) → Kept by field (with_key p (take i rows)) n (look p)) → old ≡ unwrap_or (look k) start → known_group start ≡ start_of by
+    → ((p : Field) → Kept by field (with_first p (take i rows)) n (look p)) → old ≡ unwrap_or (look k) start → known_group start ≡ start_of by
     → known_group new ≡ with_read (known_group old) (read (folding_of (known old.fold)) (slice_get r field)) → size new.fold ≤ m → n ≤ m
-    → now ≡ cond (is_eq (field_cmp k q)) (Some new) (look q) → Kept by field (with_key q (take (i + 1) rows)) m now
+    → now ≡ cond (is_eq (field_cmp k q)) (Some new) (look q) → Kept by field (with_first q (take (i + 1) rows)) m now
 kept_more by field rows i r k q start old new look now n m within is at h e s w z l a =
     let after = go (is_eq (field_cmp k q)) in
-    record { known = ap (option_map known_group) a ∙ after.known ∙ ap (group_of by field) (sym (with_key-more q k r rows i within is at)); small = subst (small_in m) (sym a) after.small }
+    record { known = ap (option_map known_group) a ∙ after.known ∙ ap (group_of by field) (sym (with_first-more q k r rows i within is at)); small = subst (small_in m) (sym a) after.small }
   where
-    go : (b : Bool) → Kept by field (cond b (with_key k (take i rows) ++ r ∷ []) (with_key q (take i rows))) m (cond b (Some new) (look q))
-    go true = record { known = ap Some (new_made by field (with_key k (take i rows)) n start old (look k) e s (h k) r new w) ∙ sym (group_end by field (with_key k (take i rows)) r); small = z }
+    go : (b : Bool) → Kept by field (cond b (with_first k (take i rows) ++ r ∷ []) (with_first q (take i rows))) m (cond b (Some new) (look q))
+    go true = record { known = ap Some (new_made by field (with_first k (take i rows)) n start old (look k) e s (h k) r new w) ∙ sym (group_end by field (with_first k (take i rows)) r); small = z }
     go false = record { known = (h q).known; small = small_more n m (look q) l (h q).small }
 
 ---- the faults of bad rows
@@ -113,17 +115,17 @@ none_pushed fs r w e = sym (append-nil fs) ∙ ap (λ o. fs ++ cons_option (faul
 ---- what the groups give
 
 module _ (by : Folding) (field : ℕ) (rows : List Row) (es : List (Bor Field × Group)) (look : Field → Option Group) (order : IsStrictlySortedBy field_cmp (map key_of es)) (same : (k : Field) → lookup (at_key k) es ≡ look k)
-    (h : (k : Field) → option_map known_group (look k) ≡ group_of by field (with_key k rows)) where
+    (h : (k : Field) → option_map known_group (look k) ≡ group_of by field (with_first k rows)) (keyed : keyless first_key rows ≡ []) where
   all_seen : map seen es ≡ grouped by field rows
   all_seen =
       entries_are by field rows (map seen es) (subst (Rises field_cmp) (sym (seen_keys es)) (strictly_rises field_cmp (map key_of es) order))
       (λ k. seen_lookup k es ∙ ap (option_map known_group) (same k) ∙ h k)
 
   pub all_rows : rows_in (flat_map answer_at (map seen es)) ≡ rows_in (answers (Reduce by field) rows [])
-  all_rows = ap (λ entries. rows_in (flat_map answer_at entries)) all_seen ∙ rows_from_groups by field rows
+  all_rows = ap (λ entries. rows_in (flat_map answer_at entries)) all_seen ∙ rows_from_groups by field rows keyed
 
   pub all_faults : (none bad all : List Fault) → none ≡ [] → bad ≡ none ++ filter_map (fault_of by field) rows → all ≡ bad ++ filter_map fault_in (flat_map answer_at (map seen es))
       → ascending fault_cmp all ≡ own_faults (answers (Reduce by field) rows [])
   all_faults none bad all z b a =
       ap (ascending fault_cmp) (a ∙ (λ j. (b ∙ ap (λ l. l ++ filter_map (fault_of by field) rows) z) j ++ filter_map fault_in (flat_map answer_at (all_seen j))))
-      ∙ faults_from_groups by field rows
+      ∙ faults_from_groups by field rows keyed

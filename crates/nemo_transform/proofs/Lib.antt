@@ -1,7 +1,9 @@
 pub mod AnswerLaws
 pub mod ApartLists
 pub mod FaultOrders
+pub mod FirstFields
 pub mod FoldSteps
+pub mod FoldingWords
 pub mod GivenLaws
 pub mod GroupEntries
 pub mod GroupSteps
@@ -14,6 +16,7 @@ pub mod ReduceAnswers
 pub mod RowSteps
 pub mod Rows
 pub mod RowsByKey
+pub mod SameGiven
 pub mod TaskFaults
 pub mod TaskLaws
 pub mod WordPieces

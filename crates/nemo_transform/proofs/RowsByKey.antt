@@ -13,21 +13,22 @@ use Rattle.nemo_value.specs.Order.{field_cmp}
 use Rattle.nemo_value.specs.declared.field.Field.{Field}
 use Rattle.nemo_value.specs.declared.record.Record.{Record}
 use Rattle.nemo_value.specs.declared.field.Field.TheVariants.{Int}
-use Rattle.nemo_transform.specs.Gives.{Row, has_key, key, with_key}
+use Rattle.nemo_transform.specs.FirstField.{has_first, key, with_first}
+use Rattle.nemo_transform.specs.Gives.{Row}
 
 -- the key of a row is its first field
 pub key_is : (x : Row) (k : Field) → slice_get x 0 ≡ Some k → key x ≡ k
 key_is x k h = ap (λ o. unwrap_or o (Int (pos 0))) h
 
 -- the rows of a key, after one row more
-pub with_key-more : (q k : Field) (x : Row) (rows : List Row) (i : ℕ) → i < length rows → x ≡ get_or rows i x → slice_get x 0 ≡ Some k
-    → with_key q (take (i + 1) rows) ≡ cond (is_eq (field_cmp k q)) (with_key k (take i rows) ++ x ∷ []) (with_key q (take i rows))
-with_key-more q k x rows i within is at =
-    ap (with_key q) (take_more rows i x within ∙ ap (λ y. take i rows ++ y ∷ []) (sym is)) ∙ filter-append (has_key q) (take i rows) (x ∷ []) ∙ go (is_eq (field_cmp k q)) refl
+pub with_first-more : (q k : Field) (x : Row) (rows : List Row) (i : ℕ) → i < length rows → x ≡ get_or rows i x → slice_get x 0 ≡ Some k
+    → with_first q (take (i + 1) rows) ≡ cond (is_eq (field_cmp k q)) (with_first k (take i rows) ++ x ∷ []) (with_first q (take i rows))
+with_first-more q k x rows i within is at =
+    ap (with_first q) (take_more rows i x within ∙ ap (λ y. take i rows ++ y ∷ []) (sym is)) ∙ filter-append (has_first q) (take i rows) (x ∷ []) ∙ go (is_eq (field_cmp k q)) refl
   where
-    go : (b : Bool) → is_eq (field_cmp k q) ≡ b → with_key q (take i rows) ++ with_key q (x ∷ []) ≡ cond b (with_key k (take i rows) ++ x ∷ []) (with_key q (take i rows))
-    go true e = ap (λ c. with_key q (take i rows) ++ cond c (x ∷ []) []) (ap (λ f. is_eq (field_cmp f q)) (key_is x k at) ∙ e) ∙ ap (λ f. with_key f (take i rows) ++ x ∷ []) (sym (field_one k q ((Equal-is (field_cmp k q)).0 e)))
-    go false e = ap (λ c. with_key q (take i rows) ++ cond c (x ∷ []) []) (ap (λ f. is_eq (field_cmp f q)) (key_is x k at) ∙ e) ∙ append-nil (with_key q (take i rows))
+    go : (b : Bool) → is_eq (field_cmp k q) ≡ b → with_first q (take i rows) ++ with_first q (x ∷ []) ≡ cond b (with_first k (take i rows) ++ x ∷ []) (with_first q (take i rows))
+    go true e = ap (λ c. with_first q (take i rows) ++ cond c (x ∷ []) []) (ap (λ f. is_eq (field_cmp f q)) (key_is x k at) ∙ e) ∙ ap (λ f. with_first f (take i rows) ++ x ∷ []) (sym (field_one k q ((Equal-is (field_cmp k q)).0 e)))
+    go false e = ap (λ c. with_first q (take i rows) ++ cond c (x ∷ []) []) (ap (λ f. is_eq (field_cmp f q)) (key_is x k at) ∙ e) ∙ append-nil (with_first q (take i rows))
 
 -- the rows behind what a look-up gives
 abbrev pub rows_behind : Option (Vec (Bor Record) Global) → List Row
@@ -45,10 +46,10 @@ opened o was v e h = go was (subst (λ p. UnwrapsOrElse p (λ x. (x.items ≡ []
 pub grown : (q k : Field) (x : Row) (rows : List Row) (i : ℕ) (old : Field → Option (Vec (Bor Record) Global)) (now : Option (Vec (Bor Record) Global)) (before after : Vec (Bor Record) Global) (more : Bor Record)
     → i < length rows → x ≡ get_or rows i x → slice_get x 0 ≡ Some k
     → now ≡ cond (is_eq (field_cmp k q)) (Some after) (old q) → after.items ≡ before.items ++ more ∷ [] → more.now ≡ x → map (λ r. r.now) before.items ≡ rows_behind (old k)
-    → ((p : Field) → rows_behind (old p) ≡ with_key p (take i rows)) → rows_behind now ≡ with_key q (take (i + 1) rows)
+    → ((p : Field) → rows_behind (old p) ≡ with_first p (take i rows)) → rows_behind now ≡ with_first q (take (i + 1) rows)
 grown q k x rows i old now before after more within is at n a m b h =
-    ap rows_behind n ∙ go (is_eq (field_cmp k q)) ∙ sym (with_key-more q k x rows i within is at)
+    ap rows_behind n ∙ go (is_eq (field_cmp k q)) ∙ sym (with_first-more q k x rows i within is at)
   where
-    go : (t : Bool) → rows_behind (cond t (Some after) (old q)) ≡ cond t (with_key k (take i rows) ++ x ∷ []) (with_key q (take i rows))
+    go : (t : Bool) → rows_behind (cond t (Some after) (old q)) ≡ cond t (with_first k (take i rows) ++ x ∷ []) (with_first q (take i rows))
     go true = ap (map (λ r. r.now)) a ∙ map-append (λ (r : Bor Record). r.now) before.items (more ∷ []) ∙ (λ j. (b ∙ h k) j ++ m j ∷ [])
     go false = h q

@@ -1,8 +1,9 @@
 -- What a transform gives on lists of rows: a list of answers, each a row or a fault.
-use Rattle.std.specs.Prelude.{ℕ, ℤ, pos, ◌+ℤ◌, ◌==◌, List, [], ◌∷◌, ◌++◌, length, map, drop, slice_get, unwrap_or, filter, reverse, Option, Some, None, Result, Ok, Err, Bool, true, false, nat_le, if◌then◌else◌}
-use Rattle.std.specs.List.{flat_map, filter_map}
+use Rattle.std.specs.Prelude.{ℕ, suc, ℤ, pos, ◌+ℤ◌, ◌==◌, List, [], ◌∷◌, ◌++◌, length, map, slice_get, filter, reverse, Option, Some, None, Result, Ok, Err, Bool, true, false, nat_le, if◌then◌else◌}
+use Rattle.std.specs.List.{flat_map, filter_map, list_any}
 use Rattle.std.specs.Ordering.{is_eq}
 use Rattle.nemo_value.specs.Ascending.{ascending}
+use Rattle.nemo_value.specs.Key.{key_by, first_key}
 use Rattle.nemo_value.specs.Order.{field_cmp, record_cmp}
 use Rattle.nemo_value.specs.Val.{val, fits_i64, is_zero}
 use Rattle.nemo_value.specs.declared.expr.Expr.{Expr}
@@ -91,19 +92,51 @@ map_answers out rows = flat_map (λ r. rows_or r (alone (row_of out r))) rows
 
 ---- by key
 
--- the first field; each record has one
-abbrev pub key : Row → Field
-key r = unwrap_or (slice_get r 0) (Int (pos 0))
+-- whether a key, where there is one, is k
+abbrev pub is_key : List Field → Option (List Field) → Bool
+is_key k None = false
+is_key k (Some q) = is_eq (record_cmp q k)
+
+-- the rows whose key under a key list is k
+abbrev pub with_key : List ℕ → List Field → List Row → List Row
+with_key names k rows = filter (λ r. is_key k (key_by names r)) rows
 
 -- the keys of the rows, in ascending order
-abbrev pub keys : List Row → List Field
-keys rows = ascending field_cmp (map key rows)
+abbrev pub keys : List ℕ → List Row → List (List Field)
+keys names rows = ascending record_cmp (filter_map (key_by names) rows)
 
-abbrev pub has_key : Field → Row → Bool
-has_key k r = is_eq (field_cmp (key r) k)
+abbrev pub fault_without : Row → Option (List Field) → Option Answer
+fault_without r None = Some (fault NoField r)
+fault_without r (Some k) = None
 
-abbrev pub with_key : Field → List Row → List Row
-with_key k rows = filter (has_key k) rows
+-- the faults of the rows without a key
+abbrev pub keyless : List ℕ → List Row → List Answer
+keyless names rows = filter_map (λ r. fault_without r (key_by names r)) rows
+
+abbrev pub good : {X : Type 0} → Result X Kind → Option X
+good (Ok x) = Some x
+good (Err k) = None
+
+abbrev pub bad : {X : Type 0} → Row → Result X Kind → Option Answer
+bad r (Ok x) = None
+bad r (Err k) = Some (fault k r)
+
+-- the faults, or the answers where there are none
+abbrev pub unless : List Answer → List Answer → List Answer
+unless [] answers = answers
+unless (f ∷ fs) answers = f ∷ fs
+
+-- what is given of the rows of a key: the faults of bad rows, or what `gives` makes of the key and of all that was read
+abbrev pub of_key : {X : Type 0} → (Row → Result X Kind) → (List Field → List X → List Answer) → List Field → List Row → List Answer
+of_key reads gives k rows =
+    unless (filter_map (λ r. bad r (reads r)) rows)
+    (gives k (filter_map (λ r. good (reads r)) rows))
+
+-- what is given key by key, in ascending order
+abbrev pub by_key : {X : Type 0} → List ℕ → (Row → Result X Kind) → (List Field → List X → List Answer) → List Row → List Answer
+by_key names reads gives rows = keyless names rows ++ flat_map (λ k. of_key reads gives k (with_key names k rows)) (keys names rows)
+
+---- folding
 
 -- what a reduce reads of a row: a field, or a fault
 abbrev pub read : Folding → Option Field → Result Field Kind
@@ -111,14 +144,6 @@ read Count f = Ok (Int (pos 1))
 read by None = Err NoField
 read Sum (Some (Text t)) = Err Typed
 read by (Some f) = Ok f
-
-abbrev pub good : Result Field Kind → Option Field
-good (Ok f) = Some f
-good (Err k) = None
-
-abbrev pub bad : Row → Result Field Kind → Option Answer
-bad r (Ok f) = None
-bad r (Err k) = Some (fault k r)
 
 abbrev pub number : Field → ℤ
 number (Int z) = z
@@ -130,38 +155,49 @@ total [] = pos 0
 total (f ∷ fs) = number f +ℤ total fs
 
 -- the key and a sum, where that fits 64 bits
-abbrev pub summed : Field → ℤ → List Answer
-summed k z = if fits_i64 z then Ok (k ∷ Int z ∷ []) ∷ [] else fault Overflow (k ∷ []) ∷ []
+abbrev pub summed : List Field → ℤ → List Answer
+summed k z = if fits_i64 z then Ok (k ++ Int z ∷ []) ∷ [] else fault Overflow k ∷ []
 
 -- the key and the first of some values
-abbrev pub first_of : Field → List Field → List Answer
+abbrev pub first_of : List Field → List Field → List Answer
 first_of k [] = []
-first_of k (v ∷ vs) = Ok (k ∷ v ∷ []) ∷ []
+first_of k (v ∷ vs) = Ok (k ++ v ∷ []) ∷ []
 
-abbrev pub folded : Folding → Field → List Field → List Answer
+abbrev pub folded : Folding → List Field → List Field → List Answer
 folded Sum k fs = summed k (total fs)
 folded Count k fs = summed k (total fs)
 folded Min k fs = first_of k (ascending field_cmp fs)
 folded Max k fs = first_of k (reverse (ascending field_cmp fs))
 
--- the faults, or the answers where there are none
-abbrev pub unless : List Answer → List Answer → List Answer
-unless [] answers = answers
-unless (f ∷ fs) answers = f ∷ fs
+---- joining
 
--- the answer of a reduce for a key, on the rows that have it
-abbrev pub reduced : Folding → ℕ → Field → List Row → List Answer
-reduced by field k rows =
-    unless (filter_map (λ r. bad r (read by (slice_get r field))) rows)
-    (folded by k (filter_map (λ r. good (read by (slice_get r field))) rows))
+-- the fields of a row that a key list doesn't name; the first of them is at place n
+abbrev pub unnamed_from : ℕ → List ℕ → Row → Row
+unnamed_from n names [] = []
+unnamed_from n names (f ∷ fs) = if list_any (λ k. k == n) names then unnamed_from (suc n) names fs else f ∷ unnamed_from (suc n) names fs
 
--- the left fields, and then the right ones from field 1
-abbrev pub pair : Row → Row → Answer
-pair l r = if nat_le (length (l ++ drop 1 r)) 16 then Ok (l ++ drop 1 r) else fault Wide l
+abbrev pub unnamed : List ℕ → Row → Row
+unnamed names r = unnamed_from 0 names r
 
--- a left row with each right row of its key
-abbrev pub joined : List Row → Row → List Answer
-joined right l = map (pair l) (with_key (key l) right)
+-- a row made of a left one, where it isn't too wide
+abbrev pub fitting : Row → Row → Answer
+fitting l row = if nat_le (length row) 16 then Ok row else fault Wide l
+
+-- the left fields, and then the right ones that the right key list doesn't name
+abbrev pub pair : List ℕ → Row → Row → Answer
+pair names l r = fitting l (l ++ unnamed names r)
+
+abbrev pub pairs_at : List ℕ → List Row → Row → Option (List Field) → List Answer
+pairs_at names right l None = fault NoField l ∷ []
+pairs_at names right l (Some k) = map (pair names l) (with_key names k right)
+
+-- a left row with each right row of its key, by the key lists of both
+abbrev pub joined : List ℕ → List ℕ → List Row → Row → List Answer
+joined left_names right_names right l = pairs_at right_names right l (key_by left_names l)
+
+-- left row by left row
+abbrev pub join : List ℕ → List ℕ → List Row → List Row → List Answer
+join left_names right_names left right = keyless right_names right ++ flat_map (joined left_names right_names right) left
 
 ---- all transforms
 
@@ -172,10 +208,10 @@ answers (Filter cond) first second = flat_map (λ r. rows_or r (where_so (val co
 answers (Emit outs) first second = flat_map (λ r. rows_or r (emitted outs r)) first
 answers (Words field) first second = flat_map (λ r. rows_or r (words_in (slice_get r field))) first
 answers (Union ports) first second = map Ok first
-answers (Reduce by field) first second = flat_map (λ k. reduced by field k (with_key k first)) (keys first)
+answers (Reduce by field) first second = by_key first_key (λ r. read by (slice_get r field)) (folded by) first
 answers Distinct first second = map Ok (ascending record_cmp first)
-answers Join first second = flat_map (joined second) first
-answers SideJoin first second = flat_map (joined second) first
+answers Join first second = join first_key first_key first second
+answers SideJoin first second = join first_key first_key first second
 answers (Sink name) first second = map Ok first
 
 abbrev pub row_in : Answer → Option Row

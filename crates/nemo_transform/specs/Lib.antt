@@ -1,5 +1,6 @@
 pub mod Brought
 pub mod FaultOrder
+pub mod FirstField
 pub mod Folds
 pub mod Gives
 pub mod Groups
@@ -9,3 +10,4 @@ pub mod Ports
 pub mod RowByRow
 pub mod Soundness
 pub mod Tasks
+pub mod Words

@@ -1,11 +1,10 @@
 -- The ports of a transform.
-use Rattle.std.specs.Prelude.{List, [], ◌∷◌, Bool, true, false, replicate}
+use Rattle.std.specs.Prelude.{ℕ, List, [], ◌∷◌, Bool, true, false, replicate}
+use Rattle.nemo_value.specs.Key.{first_key}
+pub use Rattle.nemo_transform.specs.declared.shape.PortKind.{PortKind}
+pub use Rattle.nemo_transform.specs.declared.shape.PortKind.TheVariants.{Main, Keyed, Side}
 use Rattle.nemo_transform.specs.declared.transform.Transform.{Transform}
 use Rattle.nemo_transform.specs.declared.transform.Transform.TheVariants.{Source, Map, Filter, Emit, Words, Union, Reduce, Distinct, Join, SideJoin, Sink}
-
--- rows of a Main port may come in any split, those of a Keyed port meet by key, and those of a Side port are everywhere
-pub data PortKind : Type 0 where
-  Main Keyed Side : PortKind
 
 abbrev pub kinds_of : Transform → List PortKind
 kinds_of (Source rows) = []
@@ -19,6 +18,10 @@ kinds_of Distinct = Keyed ∷ []
 kinds_of Join = Keyed ∷ Keyed ∷ []
 kinds_of SideJoin = Main ∷ Side ∷ []
 kinds_of (Sink name) = Main ∷ []
+
+-- the key list of each port
+abbrev pub key_list : Transform → ℕ → List ℕ
+key_list t port = first_key
 
 abbrev pub is_main : PortKind → Bool
 is_main Main = true

@@ -13,7 +13,7 @@ use nemo_value::{List, NoMemory, Record};
 use std::alloc::Global;
 
 /// The rows that a transform gives, and its own faults by kind and record, each once.
-#[derive(Debug, Drop)]
+#[derive(Drop)]
 pub struct Applied {
     pub rows: List<Record>,
     pub faults: List<Fault>,
@@ -50,7 +50,7 @@ pub fn apply(
     ensures faults { IfOk result (λ a. a.faults ≡ own_faults (answers transform.now first.now second.now)) }
 {
     match transform {
-        Transform::Source { rows } => passed(alloc, rows.as_slice()),
+        Transform::Source { rows } => passed(alloc, rows),
         Transform::Union { .. } | Transform::Sink { .. } => passed(alloc, first),
         Transform::Map { .. }
         | Transform::Filter { .. }
@@ -87,7 +87,7 @@ pub fn apply_owned(
         | Transform::Reduce { .. }
         | Transform::Distinct
         | Transform::Join
-        | Transform::SideJoin => apply(alloc, transform, rows.as_slice(), &[]),
+        | Transform::SideJoin => apply(alloc, transform, &rows, &[]),
     }
 }
 

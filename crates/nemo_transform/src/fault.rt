@@ -7,7 +7,7 @@ use std::alloc::Global;
 use std::collections::BTreeSet;
 
 /// A fault of a transform: its kind, and the record that made it. Faults are ordered by kind, and then by record.
-#[derive(Debug, PartialEq, Eq, PartialOrd, Ord, Drop)]
+#[derive(PartialEq, Eq, PartialOrd, Ord, Drop)]
 pub struct Fault {
     pub kind: Kind,
     pub rec: Record,

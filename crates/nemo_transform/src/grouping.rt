@@ -8,7 +8,9 @@ ghost use Rattle.nemo_value.specs.Answers.{Gives};
 ghost use Rattle.nemo_value.specs.Order.{field_cmp};
 ghost use Rattle.nemo_value.specs.declared.field.Field.{Field};
 ghost use Rattle.nemo_transform.specs.Folds.{known, known_or, known_group, start_of, folding_of, folded_with, with_read, why, value_in, lesser, greater, size};
-ghost use Rattle.nemo_transform.specs.Gives.{answers, rows_in, fault_in, own_faults, read, with_key};
+ghost use Rattle.nemo_transform.specs.FirstField.{with_first};
+ghost use Rattle.nemo_transform.specs.Gives.{answers, keyless, rows_in, fault_in, own_faults, read};
+ghost use Rattle.nemo_value.specs.Key.{first_key};
 ghost use Rattle.nemo_transform.specs.Groups.{group_of, fault_of, at_key, key_of, seen, answer_at};
 ghost use Rattle.nemo_transform.specs.declared.transform.Transform.TheVariants.{Reduce, Distinct};
 
@@ -64,8 +66,9 @@ fn groups_of<'a>(
     rows: &'a [Record],
     faults: &mut Vec<Fault>,
 ) -> Result<HashMap<&'a Field, Group<'a>>, NoMemory>
-    ensures groups { IfOk result (λ m. (k : Field) → option_map known_group (get_by (at_key k) m) ≡ group_of by field (with_key k rows.now)) }
+    ensures groups { IfOk result (λ m. (k : Field) → option_map known_group (get_by (at_key k) m) ≡ group_of by field (with_first k rows.now)) }
     ensures faults { OnOk result (faults.new.items ≡ faults.old.items ++ filter_map (fault_of by field) rows.now) }
+    ensures keyed { OnOk result (keyless first_key rows.now ≡ []) }
 {
     let empty = start(by);
     let mut groups: HashMap<&'a Field, Group<'a>> = HashMap::new(alloc);
@@ -107,20 +110,35 @@ fn rows_of(
 {
     let mut given = List::with_capacity(alloc, entries.len())?;
     for (key, group) in entries {
-        if group.is_bad {
-            continue;
-        }
-        match value_of(alloc, group.fold) {
-            Ok(Some(value)) => given.push(key_row(alloc, key, Some(value))?)?,
-            Ok(None) => {}
-            Err(EvalFault::Fault(kind)) => faults.push(Fault {
-                kind,
-                rec: key_row(alloc, key, None)?,
-            })?,
-            Err(EvalFault::NoMemory) => return Err(NoMemory),
+        match answer_of(alloc, key, group)? {
+            Some(Ok(row)) => given.push(row)?,
+            Some(Err(fault)) => faults.push(fault)?,
+            None => {}
         }
     }
     Ok(given)
+}
+
+/// The row or the fault of a key, but for the faults of its bad rows.
+fn answer_of(
+    alloc: Global,
+    key: &Field,
+    group: Group<'_>,
+) -> Result<Option<Result<Record, Fault>>, NoMemory>
+    ensures { IfOk result (λ answer. option_to_list answer ≡ answer_at (key.now, known_group group.entry)) }
+{
+    if group.is_bad {
+        return Ok(None);
+    }
+    match value_of(alloc, group.fold) {
+        Ok(Some(value)) => Ok(Some(Ok(key_row(alloc, key, Some(value))?))),
+        Ok(None) => Ok(None),
+        Err(EvalFault::Fault(kind)) => Ok(Some(Err(Fault {
+            kind,
+            rec: key_row(alloc, key, None)?,
+        }))),
+        Err(EvalFault::NoMemory) => Err(NoMemory),
+    }
 }
 
 /// The row of a key and, where it has one, a value.
@@ -132,10 +150,7 @@ fn key_row(alloc: Global, key: &Field, value: Option<Field>) -> Result<Record, N
     if let Some(field) = value {
         fields.push(field)?;
     }
-    match Record::new(fields) {
-        Ok(row) => Ok(row),
-        Err(_) => unreachable!(),
-    }
+    Ok(Record::of(fields))
 }
 
 /// What a reduce made of the rows of a key so far. The least and the greatest field are borrowed.
@@ -197,15 +212,23 @@ fn folded<'a>(fold: Fold<'a>, value: Option<&'a Field>) -> Result<Fold<'a>, Kind
     ensures known { known_or result ≡ folded_with (known fold.entry) (read (folding_of (known fold.entry)) (option_copied value.entry)) }
     ensures size { IfOk result (λ more. size more ≤ size fold.entry + 2 ^ 63) }
 {
-    match (fold, value) {
-        (Fold::Count(count), _) => Ok(Fold::Count(count + 1)),
-        (_, None) => Err(Kind::NoField),
-        (Fold::Sum(sum), Some(Field::Int(n))) => Ok(Fold::Sum(sum + i128::from(*n))),
-        (Fold::Sum(_), Some(Field::Text(_))) => Err(Kind::Typed),
-        (Fold::Min(None), Some(field)) => Ok(Fold::Min(Some(field))),
-        (Fold::Min(Some(best)), Some(field)) => Ok(Fold::Min(Some(lesser(best, field)))),
-        (Fold::Max(None), Some(field)) => Ok(Fold::Max(Some(field))),
-        (Fold::Max(Some(best)), Some(field)) => Ok(Fold::Max(Some(greater(best, field)))),
+    match fold {
+        Fold::Count(count) => Ok(Fold::Count(count + 1)),
+        Fold::Sum(sum) => match value {
+            Some(Field::Int(n)) => Ok(Fold::Sum(sum + i128::from(*n))),
+            Some(Field::Text(_)) => Err(Kind::Typed),
+            None => Err(Kind::NoField),
+        },
+        Fold::Min(best) => match (best, value) {
+            (Some(best), Some(field)) => Ok(Fold::Min(Some(lesser(best, field)))),
+            (None, Some(field)) => Ok(Fold::Min(Some(field))),
+            (_, None) => Err(Kind::NoField),
+        },
+        Fold::Max(best) => match (best, value) {
+            (Some(best), Some(field)) => Ok(Fold::Max(Some(greater(best, field)))),
+            (None, Some(field)) => Ok(Fold::Max(Some(field))),
+            (_, None) => Err(Kind::NoField),
+        },
     }
 }
 
@@ -214,7 +237,7 @@ fn lesser<'a>(best: &'a Field, field: &'a Field) -> &'a Field
 {
     match field.cmp(best) {
         Ordering::Less => field,
-        _ => best,
+        Ordering::Equal | Ordering::Greater => best,
     }
 }
 
@@ -223,7 +246,7 @@ fn greater<'a>(best: &'a Field, field: &'a Field) -> &'a Field
 {
     match field.cmp(best) {
         Ordering::Greater => field,
-        _ => best,
+        Ordering::Less | Ordering::Equal => best,
     }
 }
 

@@ -1,22 +1,24 @@
 ghost use Rattle.std.specs.Prelude.{◌≡◌, ◌≤◌, ◌++◌, [], map, drop, length, IfOk, OnOk};
-ghost use Rattle.std.specs.List.{flat_map, filter_map};
+ghost use Rattle.std.specs.List.{filter_map};
 ghost use Rattle.std.specs.Option.{option_map_or};
 ghost use Rattle.std.specs.HashMap.{get_by};
 ghost use Rattle.std.specs.Ordering.{is_eq};
 ghost use Rattle.nemo_value.specs.Order.{field_cmp};
 ghost use Rattle.nemo_value.specs.declared.field.Field.{Field};
-ghost use Rattle.nemo_transform.specs.Gives.{joined, pair, with_key, rows_in, fault_in, own_faults, is_filled};
+ghost use Rattle.nemo_transform.specs.FirstField.{side_by_side, wide_once, with_first};
+ghost use Rattle.nemo_transform.specs.Gives.{join, keyless, rows_in, fault_in, own_faults, is_filled};
+ghost use Rattle.nemo_value.specs.Key.{first_key};
 
 use crate::applying::Applied;
-use crate::fault::{Fault, in_order};
+use crate::fault::Fault;
 use nemo_value::{Field, Kind, List, MAX_FIELDS, NoMemory, Record, TryCopy};
 use std::alloc::Global;
 use std::collections::HashMap;
 
 /// Of each left row the rows with the right rows of its key, in their order, and a fault where these are too wide.
 pub(crate) fn joined(alloc: Global, left: &[Record], right: &[Record]) -> Result<Applied, NoMemory>
-    ensures rows { IfOk result (λ a. a.rows ≡ rows_in (flat_map (joined right.now) left.now)) }
-    ensures faults { IfOk result (λ a. a.faults ≡ own_faults (flat_map (joined right.now) left.now)) }
+    ensures rows { IfOk result (λ a. a.rows ≡ rows_in (join first_key first_key left.now right.now)) }
+    ensures faults { IfOk result (λ a. a.faults ≡ own_faults (join first_key first_key left.now right.now)) }
 {
     let by_key = rows_by_key(alloc, right)?;
     let mut rows = List::new(alloc);
@@ -26,17 +28,9 @@ pub(crate) fn joined(alloc: Global, left: &[Record], right: &[Record]) -> Result
         let Some(others) = by_key.get(&key) else {
             continue;
         };
-        if push_pairs(alloc, row, others, &mut rows)? {
-            faults.push(Fault {
-                kind: Kind::Wide,
-                rec: row.copy(alloc)?,
-            })?;
-        }
+        push_joined(alloc, row, others, &mut rows, &mut faults)?;
     }
-    Ok(Applied {
-        rows,
-        faults: in_order(alloc, faults)?,
-    })
+    Applied::new(alloc, rows, faults)
 }
 
 /// For each key the rows that have it, in their order.
@@ -44,13 +38,34 @@ fn rows_by_key<'a>(
     alloc: Global,
     rows: &'a [Record],
 ) -> Result<HashMap<&'a Field, Vec<&'a Record>>, NoMemory>
-    ensures { IfOk result (λ m. (q : Field) → option_map_or (λ g. map (λ r. r.now) g.items) (get_by (λ k. is_eq (field_cmp q k.now)) m) [] ≡ with_key q rows.now) }
+    ensures rows { IfOk result (λ m. (q : Field) → option_map_or (λ g. map (λ r. r.now) g.items) (get_by (λ k. is_eq (field_cmp q k.now)) m) [] ≡ with_first q rows.now) }
+    ensures keyed { OnOk result (keyless first_key rows.now ≡ []) }
 {
     let mut by_key: HashMap<&'a Field, Vec<&'a Record>> = HashMap::new(alloc);
     for row in rows {
         by_key.entry(row.key())?.or_default().push(row)?;
     }
     Ok(by_key)
+}
+
+/// Puts the rows of a left row with some right ones behind others, and one fault where some of these are too wide.
+fn push_joined(
+    alloc: Global,
+    left: &Record,
+    right: &[&Record],
+    rows: &mut List<Record>,
+    faults: &mut Vec<Fault>,
+) -> Result<(), NoMemory>
+    ensures rows { OnOk result (rows.new ≡ rows.old ++ rows_in (map (side_by_side left.now) (map (λ r. r.now) right.now))) }
+    ensures faults { OnOk result (faults.new.items ≡ faults.old.items ++ wide_once left.now (map (side_by_side left.now) (map (λ r. r.now) right.now))) }
+{
+    if push_pairs(alloc, left, right, rows)? {
+        faults.push(Fault {
+            kind: Kind::Wide,
+            rec: left.copy(alloc)?,
+        })?;
+    }
+    Ok(())
 }
 
 /// Puts the rows of a left row with some right ones behind others; whether some of these are too wide.
@@ -60,8 +75,8 @@ fn push_pairs(
     right: &[&Record],
     rows: &mut List<Record>,
 ) -> Result<bool, NoMemory>
-    ensures rows { IfOk result (λ wide. rows.new ≡ rows.old ++ rows_in (map (pair left.now) (map (λ r. r.now) right.now))) }
-    ensures wide { IfOk result (λ wide. wide ≡ is_filled (filter_map fault_in (map (pair left.now) (map (λ r. r.now) right.now)))) }
+    ensures rows { IfOk result (λ wide. rows.new ≡ rows.old ++ rows_in (map (side_by_side left.now) (map (λ r. r.now) right.now))) }
+    ensures wide { IfOk result (λ wide. wide ≡ is_filled (filter_map fault_in (map (side_by_side left.now) (map (λ r. r.now) right.now)))) }
 {
     let mut wide = false;
     for other in right {
@@ -82,12 +97,9 @@ fn paired(alloc: Global, left: &Record, right: &Record) -> Result<Record, NoMemo
     let own = left.fields();
     let more = right.fields();
     let mut fields = List::with_capacity(alloc, own.len() + more.len() - 1)?;
-    push_copies(alloc, &mut fields, own.as_slice())?;
-    push_copies(alloc, &mut fields, &more.as_slice()[1..])?;
-    match Record::new(fields) {
-        Ok(row) => Ok(row),
-        Err(_) => unreachable!(),
-    }
+    push_copies(alloc, &mut fields, own)?;
+    push_copies(alloc, &mut fields, &more[1..])?;
+    Ok(Record::of(fields))
 }
 
 /// Puts copies of some fields behind others.

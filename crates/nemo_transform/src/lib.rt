@@ -15,5 +15,5 @@ pub use applying::{Applied, apply, apply_owned};
 pub use counting::ports;
 pub use fault::Fault;
 pub use laws::{key_law, order_law, row_law, task_law};
-pub use shape::Ports;
+pub use shape::{PortKind, Ports};
 pub use transform::{Folding, Output, Transform};

@@ -96,15 +96,21 @@ fn add_rows(
     ensures { Adds result (rows_for transform.now row.now) given.old given.new }
 {
     match transform {
-        Transform::Map { out } => given.push(make_row(alloc, out.as_slice(), row)?)?,
+        Transform::Map { out } => given.push(make_row(alloc, out, row)?)?,
         Transform::Filter { cond } => {
             if is_so(alloc, cond, row)? {
                 given.push(row.copy(alloc)?)?;
             }
         }
-        Transform::Emit { outs } => add_outputs(alloc, outs.as_slice(), row, given)?,
+        Transform::Emit { outs } => add_outputs(alloc, outs, row, given)?,
         Transform::Words { field } => add_field_words(alloc, row.get(*field), given)?,
-        _ => given.push(row.copy(alloc)?)?,
+        Transform::Source { .. }
+        | Transform::Union { .. }
+        | Transform::Reduce { .. }
+        | Transform::Distinct
+        | Transform::Join
+        | Transform::SideJoin
+        | Transform::Sink { .. } => given.push(row.copy(alloc)?)?,
     }
     Ok(())
 }
@@ -120,10 +126,7 @@ fn make_row(alloc: Global, out: &[Expr], row: &Record) -> Result<Record, EvalFau
     for expr in out {
         fields.push(eval(alloc, expr, row)?)?;
     }
-    match Record::new(fields) {
-        Ok(rec) => Ok(rec),
-        Err(_) => unreachable!(),
-    }
+    Ok(Record::of(fields))
 }
 
 /// Whether a test isn't 0 on a row, or its fault.
@@ -168,7 +171,7 @@ fn push_outputs(
 {
     for output in outs {
         if is_so(alloc, &output.cond, row)? {
-            given.push(make_row(alloc, output.out.as_slice(), row)?)?;
+            given.push(make_row(alloc, &output.out, row)?)?;
         }
     }
     Ok(())
@@ -211,8 +214,5 @@ fn word_row(alloc: Global, word: &str) -> Result<Record, NoMemory>
     };
     let mut fields = List::with_capacity(alloc, 1)?;
     fields.push(Field::Text(text))?;
-    match Record::new(fields) {
-        Ok(rec) => Ok(rec),
-        Err(_) => unreachable!(),
-    }
+    Ok(Record::of(fields))
 }

@@ -1,10 +1,18 @@
+/// What the rows of a port have to do.
+#[derive(Clone, Copy)]
+pub enum PortKind {
+    /// They may come in any split.
+    Main,
+    /// All that have a key have to meet.
+    Keyed,
+    /// All of them have to be everywhere.
+    Side,
+}
+
 /// How many ports of each kind a transform has. Main ports come first, then Keyed ones, then Side ones.
-#[derive(Clone, Copy, Debug, PartialEq, Eq)]
+#[derive(Clone, Copy)]
 pub struct Ports {
-    /// Their rows may come in any split.
     pub main: u32,
-    /// All their rows of a key have to meet.
     pub keyed: u32,
-    /// All their rows have to be everywhere.
     pub side: u32,
 }

@@ -1,8 +1,9 @@
+use crate::shape::PortKind;
 use nemo_value::{Expr, List, Name, NoMemory, Record, Same, TryCopy};
 use std::alloc::Global;
 
 /// How a reduce folds the rows of a key.
-#[derive(Clone, Copy, Debug, PartialEq, Eq)]
+#[derive(Clone, Copy, PartialEq)]
 pub enum Folding {
     Sum,
     Min,
@@ -10,15 +11,50 @@ pub enum Folding {
     Count,
 }
 
+impl Folding {
+    ghost use Rattle.std.specs.Prelude.{◌≡◌, ◌↔◌, Some};
+    ghost use Rattle.nemo_transform.specs.Words.{folding_word};
+
+    /// The word by which a bundle names the way to fold.
+    pub fn word(self) -> &'static str
+        ensures { result.now ≡ folding_word self }
+    {
+        match self {
+            Folding::Sum => "sum",
+            Folding::Min => "min",
+            Folding::Max => "max",
+            Folding::Count => "count",
+        }
+    }
+
+    /// The way to fold that a bundle names by the word, if there is one.
+    #[tactic(auto, using(crate::proofs::FoldingWords::word_found))]
+    pub fn from_word(word: &str) -> Option<Folding>
+        ensures { (by : Folding) → (result ≡ Some by) ↔ (word.now ≡ folding_word by) }
+    {
+        if word == Folding::Sum.word() {
+            Some(Folding::Sum)
+        } else if word == Folding::Min.word() {
+            Some(Folding::Min)
+        } else if word == Folding::Max.word() {
+            Some(Folding::Max)
+        } else if word == Folding::Count.word() {
+            Some(Folding::Count)
+        } else {
+            None
+        }
+    }
+}
+
 /// An output of an emit: a row of the values of `out` where `cond` isn't 0.
-#[derive(Debug, Drop)]
+#[derive(Drop)]
 pub struct Output {
     pub cond: Expr,
     pub out: List<Expr>,
 }
 
 /// What a vertex does to the rows of its ports.
-#[derive(Debug, Drop)]
+#[derive(Drop)]
 pub enum Transform {
     /// These rows; it has no port.
     Source { rows: List<Record> },
@@ -42,6 +78,33 @@ pub enum Transform {
     SideJoin,
     /// All rows, under the sink's name.
     Sink { name: Name },
+}
+
+impl Transform {
+    ghost use Rattle.std.specs.Prelude.{◌≡◌, slice_get};
+    ghost use Rattle.nemo_transform.specs.Ports.{kinds_of};
+
+    /// The kind of port `k`, counted from 0, if there is one.
+    pub fn port(&self, k: u32) -> Option<PortKind>
+        ensures { result ≡ slice_get (kinds_of self.now) k }
+    {
+        match self {
+            Transform::Source { .. } => None,
+            Transform::Map { .. }
+            | Transform::Filter { .. }
+            | Transform::Emit { .. }
+            | Transform::Words { .. }
+            | Transform::Sink { .. } => (k < 1).then_some(PortKind::Main),
+            Transform::Union { ports } => (k < *ports).then_some(PortKind::Main),
+            Transform::Reduce { .. } | Transform::Distinct => { (k < 1).then_some(PortKind::Keyed) }
+            Transform::Join => (k < 2).then_some(PortKind::Keyed),
+            Transform::SideJoin => match k {
+                0 => Some(PortKind::Main),
+                1 => Some(PortKind::Side),
+                _ => None,
+            },
+        }
+    }
 }
 
 impl TryCopy for Output {
@@ -92,21 +155,30 @@ impl Same for Output {
 
 impl Same for Transform {
     fn same(&self, other: &Transform) -> bool {
-        match (self, other) {
-            (Transform::Source { rows: a }, Transform::Source { rows: b }) => a.same(b),
-            (Transform::Map { out: a }, Transform::Map { out: b }) => a.same(b),
-            (Transform::Filter { cond: a }, Transform::Filter { cond: b }) => a.same(b),
-            (Transform::Emit { outs: a }, Transform::Emit { outs: b }) => a.same(b),
-            (Transform::Words { field: a }, Transform::Words { field: b }) => a == b,
-            (Transform::Union { ports: a }, Transform::Union { ports: b }) => a == b,
-            (Transform::Reduce { by: a, field: i }, Transform::Reduce { by: b, field: j }) => {
-                a == b && i == j
+        match self {
+            Transform::Source { rows: a } => {
+                matches!(other, Transform::Source { rows: b } if a.same(b))
             }
-            (Transform::Distinct, Transform::Distinct) => true,
-            (Transform::Join, Transform::Join) => true,
-            (Transform::SideJoin, Transform::SideJoin) => true,
-            (Transform::Sink { name: a }, Transform::Sink { name: b }) => a.same(b),
-            _ => false,
+            Transform::Map { out: a } => matches!(other, Transform::Map { out: b } if a.same(b)),
+            Transform::Filter { cond: a } => {
+                matches!(other, Transform::Filter { cond: b } if a.same(b))
+            }
+            Transform::Emit { outs: a } =>
+                matches!(other, Transform::Emit { outs: b } if a.same(b)),
+            Transform::Words { field: a } => {
+                matches!(other, Transform::Words { field: b } if a == b)
+            }
+            Transform::Union { ports: a } => {
+                matches!(other, Transform::Union { ports: b } if a == b)
+            }
+            Transform::Reduce { by: a, field: i } => {
+                matches!(other, Transform::Reduce { by: b, field: j } if a == b && i == j)
+            }
+            Transform::Distinct => matches!(other, Transform::Distinct),
+            Transform::Join => matches!(other, Transform::Join),
+            Transform::SideJoin => matches!(other, Transform::SideJoin),
+            Transform::Sink { name: a } =>
+                matches!(other, Transform::Sink { name: b } if a.same(b)),
         }
     }
 }

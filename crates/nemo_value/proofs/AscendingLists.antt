@@ -5,20 +5,11 @@ use Rattle.std.specs.Ordering.{ordering_reverse, match_ordering}
 use Rattle.std.specs.declared.cmp.Ordering.TheVariants.{Less, Equal, Greater}
 use Rattle.std.specs.BTreeSet.{insert_key}
 use Rattle.nemo_value.specs.Ascending.{ascending}
+pub use Rattle.nemo_value.specs.Ascending.{Before, Rises}
 use Rattle.nemo_value.proofs.Members.{In, SameMembers, in_perm, members_back}
 use Rattle.std.proofs.lemmas.List.Sorted.{IsPermutation-to_front}
 use Rattle.nemo_value.proofs.Perm.{Perm, back, from_std}
 use Rattle.nemo_value.proofs.SortedLists.{IsStrict}
-
-module _ {K : Type 0} (R : K → K → Ordering) where
-  -- x is before each of a list
-  abbrev pub Before : K → List K → Type 0
-  Before x [] = Unit {0}
-  Before x (y ∷ ys) = (R x y ≡ Less) × Before x ys
-
-  abbrev pub Rises : List K → Type 0
-  Rises [] = Unit {0}
-  Rises (x ∷ xs) = Before x xs × Rises xs
 
 module _ {K : Type 0} (R : K → K → Ordering) (o : IsStrict R) where
   pub before_in : (x y : K) (ys : List K) → Before R x ys → In y ys → R x y ≡ Less
@@ -103,3 +94,7 @@ module _ {K : Type 0} (R : K → K → Ordering) (o : IsStrict R) where
   -- one item more
   pub ascending_more : (xs : List K) (x : K) → ascending R (xs ++ x ∷ []) ≡ insert_key R (ascending R xs) x
   ascending_more xs x = ascending_perm (from_std (xs ++ x ∷ []) (x ∷ xs) (IsPermutation-to_front xs x))
+
+  -- no other rising list has the same members
+  pub ascending_only : (xs ys : List K) → SameMembers xs ys → Rises R ys → ys ≡ ascending R xs
+  ascending_only xs ys s h = one_rise ys (ascending R xs) h (rises_ascending xs) (record { members = λ z. (λ m. (in_ascending xs z).1 ((s.members z).1 m), λ m. (s.members z).0 ((in_ascending xs z).0 m)) })

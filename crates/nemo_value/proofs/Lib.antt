@@ -1,7 +1,9 @@
 pub mod AscendingLists
 pub mod AscendingParts
+pub mod FirstKey
 pub mod JoinedLists
 pub mod KindPlaces
+pub mod KindWords
 pub mod LowHash
 pub mod MemberLists
 pub mod Members

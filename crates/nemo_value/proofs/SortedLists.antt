@@ -1,18 +1,12 @@
 -- `sorted` gives the one list that has the same items in order.
 use Rattle.std.proofs.Common.{◌≡◌, ◌∙◌, refl, sym, ap, zero, suc, List, [], ◌∷◌, Bool, true, false, cond, arith, add-one}
-use Rattle.std.specs.Cmp.{IsTotalOrder}
-use Rattle.std.specs.FinMap.{IsAntisymmetric}
 use Rattle.std.specs.List.Sorted.{IsSorted, IsPermutation}
 use Rattle.std.specs.Ordering.{is_lt, ordering_reverse}
 use Rattle.std.specs.declared.cmp.Ordering.{Ordering}
 use Rattle.std.specs.declared.cmp.Ordering.TheVariants.{Less, Equal, Greater}
 use Rattle.nemo_value.specs.Sorting.{placed, sorted}
+pub use Rattle.nemo_value.specs.Sorting.{IsStrict}
 use Rattle.nemo_value.proofs.Perm.{Perm, none, keep, swap, then, unmoved, to_std, from_std}
-
--- a total order under which items that tie are equal
-pub record IsStrict {X : Type 0} (R : X → X → Ordering) : Type 0 where
-  pub total : IsTotalOrder R
-  pub one : IsAntisymmetric R
 
 lt_is : (r : Ordering) → is_lt r ≡ true → r ≡ Less
 lt_is Less h = refl

@@ -1,8 +1,10 @@
+pub mod Along
 pub mod Answers
 pub mod Ascending
 pub mod Bucket
 pub mod Counted
 pub mod FieldOrder
+pub mod Key
 pub mod KindOrder
 pub mod Members
 pub mod Names
@@ -11,3 +13,4 @@ pub mod Sorting
 pub mod TextBytes
 pub mod Texts
 pub mod Val
+pub mod Words

@@ -1,3 +1,6 @@
+ghost use Rattle.std.specs.Prelude.{◌≡◌, ◌↔◌, Some};
+ghost use Rattle.nemo_value.specs.Words.{kind_word};
+
 use crate::field::Field;
 use crate::memory::NoMemory;
 use crate::same::Same;
@@ -39,6 +42,44 @@ pub enum Kind {
     NoField,
     Wide,
     Long,
+}
+
+impl Kind {
+    /// The word by which texts call the kind.
+    pub fn word(self) -> &'static str
+        ensures { result.now ≡ kind_word self }
+    {
+        match self {
+            Kind::DivZero => "DivZero",
+            Kind::Overflow => "Overflow",
+            Kind::Typed => "Type",
+            Kind::NoField => "NoField",
+            Kind::Wide => "Wide",
+            Kind::Long => "Long",
+        }
+    }
+
+    /// The kind that texts call by the word, if there is one.
+    #[tactic(auto, using(crate::proofs::KindWords::word_found))]
+    pub fn from_word(word: &str) -> Option<Kind>
+        ensures { (k : Kind) → (result ≡ Some k) ↔ (word.now ≡ kind_word k) }
+    {
+        if word == Kind::DivZero.word() {
+            Some(Kind::DivZero)
+        } else if word == Kind::Overflow.word() {
+            Some(Kind::Overflow)
+        } else if word == Kind::Typed.word() {
+            Some(Kind::Typed)
+        } else if word == Kind::NoField.word() {
+            Some(Kind::NoField)
+        } else if word == Kind::Wide.word() {
+            Some(Kind::Wide)
+        } else if word == Kind::Long.word() {
+            Some(Kind::Long)
+        } else {
+            None
+        }
+    }
 }
 
 impl TryCopy for Expr {

@@ -24,7 +24,7 @@ pub use memory::NoMemory;
 pub use name::{Name, NameRefused};
 pub use record::{BadWidth, MAX_FIELDS, Record, SinkRows};
 pub use same::Same;
-pub use sorting::{sort_law, sort_records};
+pub use sorting::{ascending_law, sort_law, sort_records};
 pub use sqlite_items::{Boxed, Items};
 pub use text::{LongText, Text};
 pub use try_copy::TryCopy;

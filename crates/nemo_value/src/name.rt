@@ -63,10 +63,7 @@ impl Name {
                 place: place as u64,
             });
         }
-        match Text::new(s) {
-            Ok(inner) => Ok(Name { inner }),
-            Err(_) => unreachable!(),
-        }
+        Ok(Name { inner: Text::of(s) })
     }
 
     pub fn as_str(&self) -> &str

@@ -1,6 +1,8 @@
 ghost use Rattle.std.specs.Prelude.{◌≡◌, ◌≤◌, ◌↔◌, length, IsOk, IfOk, IfErr, slice_get, Some};
 ghost use Rattle.std.specs.Option.{option_copied};
+ghost use Rattle.nemo_value.specs.Key.{first_key, row_bucket};
 
+use crate::bucket::bucket_of;
 use crate::field::Field;
 use crate::list::List;
 use crate::memory::NoMemory;
@@ -52,7 +54,16 @@ impl Record {
                 count: count as u64,
             });
         }
-        Ok(Record { inner: fields })
+        Ok(Record::of(fields))
+    }
+
+    /// As many fields as a record has, as a record.
+    pub fn of(fields: List<Field>) -> Record
+        requires some { 1 ≤ length fields }
+        requires few { length fields ≤ 16 }
+        ensures { result ≡ fields }
+    {
+        Record { inner: fields }
     }
 
     pub fn fields(&self) -> &List<Field>
@@ -75,6 +86,14 @@ impl Record {
         ensures { slice_get self.now 0 ≡ Some result.now }
     {
         &self.inner.as_slice()[0]
+    }
+
+    /// The bucket of the record's key, from 0 to 255.
+    #[tactic(auto, using(crate::proofs::FirstKey::row_bucket_first))]
+    pub fn bucket(&self) -> u8
+        ensures { result ≡ row_bucket first_key self.now }
+    {
+        bucket_of(self.key())
     }
 }
 

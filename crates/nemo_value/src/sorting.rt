@@ -1,7 +1,10 @@
 ghost use Rattle.std.specs.Prelude.{◌≡◌, IfOk, List as Sequence};
 ghost use Rattle.std.specs.List.Sorted.{IsSorted, IsPermutation};
 ghost use Rattle.nemo_value.specs.Order.{record_cmp};
-ghost use Rattle.nemo_value.specs.Sorting.{sorted};
+ghost use Rattle.std.specs.declared.cmp.Ordering.{Ordering};
+ghost use Rattle.nemo_value.specs.Ascending.{ascending, Rises};
+ghost use Rattle.nemo_value.specs.Members.{SameMembers};
+ghost use Rattle.nemo_value.specs.Sorting.{IsStrict, sorted};
 ghost use Rattle.nemo_value.specs.declared.field.Field.{Field};
 
 use crate::keyed::Keyed;
@@ -45,4 +48,12 @@ pub fn sort_law()
     ensures same { (rows : Sequence (Sequence Field)) → IsPermutation rows (sorted record_cmp rows) }
     ensures order { (rows : Sequence (Sequence Field)) → IsSorted record_cmp (sorted record_cmp rows) }
     ensures only { (rows others : Sequence (Sequence Field)) → IsPermutation rows others → IsSorted record_cmp others → others ≡ sorted record_cmp rows }
+{}
+
+/// What `ascending` means under every total order whose ties are equal: it has the same members, each below all that
+/// come after it, and no other list has.
+pub fn ascending_law<T>()
+    ensures same { (R : T → T → Ordering) → IsStrict R → (xs : Sequence T) → SameMembers xs (ascending R xs) }
+    ensures order { (R : T → T → Ordering) → IsStrict R → (xs : Sequence T) → Rises R (ascending R xs) }
+    ensures only { (R : T → T → Ordering) → IsStrict R → (xs others : Sequence T) → SameMembers xs others → Rises R others → others ≡ ascending R xs }
 {}

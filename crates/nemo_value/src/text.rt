@@ -59,7 +59,15 @@ impl Text {
                 count: s.len() as u64,
             });
         }
-        Ok(Text { inner: bytes_of(s) })
+        Ok(Text::of(s))
+    }
+
+    /// A string that is short enough, as a text.
+    pub fn of(s: String) -> Text
+        requires { length (string_bytes s) ≤ 65535 }
+        ensures { result ≡ string_bytes s }
+    {
+        Text { inner: bytes_of(s) }
     }
 
     /// A copy of the string as a text; nothing exactly where it is longer than 65,535 bytes.
