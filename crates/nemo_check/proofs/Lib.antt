@@ -1,3 +1,3 @@
-pub mod Failures
+pub mod Judging
 pub mod Numbered
-pub mod Producers
+pub mod Standing

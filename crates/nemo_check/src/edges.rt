@@ -1,97 +1,89 @@
-ghost use Rattle.std.specs.Prelude.{◌≡◌};
-ghost use Rattle.nemo_check.specs.Finds.{failing_from};
+ghost use Rattle.std.specs.Prelude.{◌≡◌, ◌==◌, not, slice_get};
+ghost use Rattle.nemo_ir.specs.Along.{passes};
 ghost use Rattle.nemo_ir.specs.Valid as spec;
 
-use crate::ports::takes;
 use nemo_base::Pattern;
-use nemo_ir::{FlatJob, IrDag, IrEdge, VertexKind};
+use nemo_ir::{FlatJob, IrDag, VertexKind};
+use nemo_transform::PortKind;
 
-/// The first edge that leads to no later vertex.
-pub(crate) fn first_falling(dag: &IrDag) -> Option<usize>
-    ensures { result ≡ failing_from (λ i e. spec.rises dag.now e) 0 dag.now.edges }
+/// Whether the edge at a place leads to a later vertex.
+pub(crate) fn rises(dag: &IrDag, place: usize) -> bool
+    ensures { result ≡ passes (spec.rises dag.now) (slice_get dag.now.edges place) }
 {
-    for (i, e) in dag.edges.as_slice().iter().enumerate() {
-        if !rises(dag, e) {
-            return Some(i);
-        }
-    }
-    None
-}
-
-fn rises(dag: &IrDag, e: &IrEdge) -> bool
-    ensures { result ≡ spec.rises dag.now e.now }
-{
-    e.from < e.to && (e.to as usize) < dag.vertices.len()
-}
-
-/// The first edge whose port doesn't take its pattern.
-pub(crate) fn first_untaken(flat: &FlatJob, dag: &IrDag) -> Option<usize>
-    ensures { result ≡ failing_from (λ i e. spec.is_taken flat.now dag.now e) 0 dag.now.edges }
-{
-    for (i, e) in dag.edges.as_slice().iter().enumerate() {
-        if !is_taken(flat, dag, e) {
-            return Some(i);
-        }
-    }
-    None
-}
-
-fn is_taken(flat: &FlatJob, dag: &IrDag, e: &IrEdge) -> bool
-    ensures { result ≡ spec.is_taken flat.now dag.now e.now }
-{
-    match dag.vertices.get(e.to as usize) {
-        Some(u) => takes(flat, u, e.port, e.pattern),
+    match dag.edges.get(place) {
+        Some(e) => e.from < e.to && (e.to as usize) < dag.vertices.len(),
         None => false,
     }
 }
 
-/// The first OneToOne edge whose ends have different parallelism.
-pub(crate) fn first_uneven(dag: &IrDag) -> Option<usize>
-    ensures { result ≡ failing_from (λ i e. spec.is_level dag.now e) 0 dag.now.edges }
+/// Whether the port of the edge at a place takes its pattern.
+pub(crate) fn is_taken(flat: &FlatJob, dag: &IrDag, place: usize) -> bool
+    ensures { result ≡ passes (spec.is_taken flat.now dag.now) (slice_get dag.now.edges place) }
 {
-    for (i, e) in dag.edges.as_slice().iter().enumerate() {
-        if !is_level(dag, e) {
-            return Some(i);
-        }
-    }
-    None
-}
-
-fn is_level(dag: &IrDag, e: &IrEdge) -> bool
-    ensures { result ≡ spec.is_level dag.now e.now }
-{
-    match e.pattern {
-        Pattern::OneToOne => {
-            match (
-                dag.vertices.get(e.from as usize),
-                dag.vertices.get(e.to as usize),
-            ) {
-                (Some(u), Some(w)) => u.parallelism == w.parallelism,
-                _ => false,
-            }
-        }
-        _ => true,
+    match dag.edges.get(place) {
+        Some(e) => match dag.vertices.get(e.to as usize) {
+            Some(u) => match u.port(flat.transforms.as_slice(), e.port) {
+                Some(kind) => takes(kind, e.pattern),
+                None => false,
+            },
+            None => false,
+        },
+        None => false,
     }
 }
 
-/// The first edge from a Trigger that isn't Hash.
-pub(crate) fn first_uncounted(dag: &IrDag) -> Option<usize>
-    ensures { result ≡ failing_from (λ i e. spec.is_counted dag.now e) 0 dag.now.edges }
+fn takes(kind: PortKind, pattern: Pattern) -> bool
+    ensures { result ≡ spec.takes kind pattern }
 {
-    for (i, e) in dag.edges.as_slice().iter().enumerate() {
-        if !is_counted(dag, e) {
-            return Some(i);
-        }
+    match kind {
+        PortKind::Main => !matches!(pattern, Pattern::Broadcast),
+        PortKind::Keyed => matches!(pattern, Pattern::Hash),
+        PortKind::Side => matches!(pattern, Pattern::Broadcast),
     }
-    None
 }
 
-fn is_counted(dag: &IrDag, e: &IrEdge) -> bool
-    ensures { result ≡ spec.is_counted dag.now e.now }
+/// Whether the ends of the edge at a place have equal parallelism, where it is OneToOne.
+pub(crate) fn is_level(dag: &IrDag, place: usize) -> bool
+    ensures { result ≡ passes (spec.is_level dag.now) (slice_get dag.now.edges place) }
 {
-    match (e.pattern, dag.vertices.get(e.from as usize)) {
-        (Pattern::Hash, _) => true,
-        (_, Some(u)) => !matches!(u.kind, VertexKind::Trigger),
-        (_, None) => false,
+    match dag.edges.get(place) {
+        Some(e) => match e.pattern {
+            Pattern::OneToOne => are_level(dag, e.from, e.to),
+            Pattern::Broadcast | Pattern::Hash | Pattern::Spread => true,
+        },
+        None => false,
+    }
+}
+
+/// Whether two vertices stand there and have equal parallelism.
+fn are_level(dag: &IrDag, from: u32, to: u32) -> bool
+    ensures { result ≡ passes (λ u. passes (λ w. u.parallelism == w.parallelism) (slice_get dag.now.vertices to)) (slice_get dag.now.vertices from) }
+{
+    match dag.vertices.get(from as usize) {
+        Some(u) => match dag.vertices.get(to as usize) {
+            Some(w) => u.parallelism == w.parallelism,
+            None => false,
+        },
+        None => false,
+    }
+}
+
+/// Whether the edge at a place is Hash or comes from no Trigger.
+pub(crate) fn is_counted(dag: &IrDag, place: usize) -> bool
+    ensures { result ≡ passes (spec.is_counted dag.now) (slice_get dag.now.edges place) }
+{
+    match dag.edges.get(place) {
+        Some(e) => matches!(e.pattern, Pattern::Hash) || is_no_trigger(dag, e.from),
+        None => false,
+    }
+}
+
+/// Whether a vertex stands there that is no Trigger.
+fn is_no_trigger(dag: &IrDag, v: u32) -> bool
+    ensures { result ≡ passes (λ u. not (spec.is_trigger u.kind)) (slice_get dag.now.vertices v) }
+{
+    match dag.vertices.get(v as usize) {
+        Some(u) => !matches!(u.kind, VertexKind::Trigger),
+        None => false,
     }
 }

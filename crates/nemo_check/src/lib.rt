@@ -1,9 +1,10 @@
 //! The checker: which proposed DAGs compute a flat job.
 #![tactic(auto)]
 
+mod candidate;
 mod checker;
 mod edges;
-mod ports;
+mod producers;
 mod reps;
 mod tables;
 mod vertices;

@@ -1,76 +1,39 @@
-ghost use Rattle.std.specs.Prelude.{◌≡◌, ◌==◌, ◌<◌, nat_lt, length, map, filter, count_by};
+ghost use Rattle.std.specs.Prelude.{◌≡◌, ◌==◌, ◌<◌, nat_lt, length, map, count_by, slice_get};
 ghost use Rattle.std.specs.List.{list_all, list_any};
-ghost use Rattle.nemo_ir.specs.Along.{below};
-ghost use Rattle.nemo_check.specs.Finds.{failing_from};
-ghost use Rattle.nemo_check.specs.Tables as table;
-ghost use Rattle.nemo_ir.specs.Nodes as nodes;
+ghost use Rattle.nemo_ir.specs.Along.{below, passes};
 ghost use Rattle.nemo_ir.specs.Valid as spec;
 
-use crate::ports::port_count;
-use nemo_ir::{FlatJob, IrDag, IrEdge, IrVertex, VertexKind};
-use nemo_value::List;
+use crate::candidate::Candidate;
+use nemo_ir::{DagIndex, FlatJob, IrDag, IrEdge};
 
-pub(crate) fn is_utility(kind: VertexKind) -> bool
-    ensures { result ≡ nodes.is_utility kind }
+/// Whether the vertex at a place has an out-edge, where it is a utility vertex.
+pub(crate) fn is_used(index: &DagIndex<'_>, place: usize) -> bool
+    ensures { result ≡ passes (spec.is_used index.now place) (slice_get index.now.vertices place) }
 {
-    match kind {
-        VertexKind::Op(_) => false,
-        VertexKind::Relay | VertexKind::Trigger => true,
+    match index.dag().vertices.get(place) {
+        Some(u) => !u.kind.is_utility() || has_out_edge(index, place),
+        None => false,
     }
 }
 
-fn is_used(dag: &IrDag, used: &[bool], v: usize) -> bool
-    requires table { used.now ≡ table.used dag.now }
-    requires within { v < length dag.now.vertices }
-    ensures { result ≡ list_any (λ e. e.from == v) dag.now.edges }
+fn has_out_edge(index: &DagIndex<'_>, v: usize) -> bool
+    requires { v < length index.now.vertices }
+    ensures { result ≡ list_any (λ e. e.from == v) index.now.edges }
 {
-    used[v]
+    !index.out_edges(v).is_empty()
 }
 
-fn is_standing(dag: &IrDag, standing: &[bool], v: usize) -> bool
-    requires table { standing.now ≡ table.standing dag.now }
-    requires within { v < length dag.now.vertices }
-    ensures { result ≡ list_any (λ r. r == v) dag.now.rep }
+/// Whether each port of the vertex at a place has exactly one in-edge, and no in-edge names another port.
+pub(crate) fn is_fed(flat: &FlatJob, index: &DagIndex<'_>, place: usize) -> bool
+    ensures { result ≡ passes (spec.is_fed flat.now index.now place) (slice_get index.now.vertices place) }
 {
-    standing[v]
-}
-
-#[tactic(auto, using(crate::proofs::Numbered::in_edges_long, crate::proofs::Numbered::in_edges_at))]
-pub(crate) fn edges_into<'a>(dag: &IrDag, in_edges: &'a [List<IrEdge>], v: usize) -> &'a [IrEdge]
-    requires table { in_edges.now ≡ table.in_edges dag.now }
-    requires within { v < length dag.now.vertices }
-    ensures { result.now ≡ filter (λ e. e.to == v) dag.now.edges }
-{
-    match in_edges.get(v) {
-        Some(edges) => edges.as_slice(),
-        None => unreachable!(),
+    match index.dag().vertices.get(place) {
+        Some(u) => names_each(
+            u.port_count(flat.transforms.as_slice()),
+            index.in_edges(place),
+        ),
+        None => false,
     }
-}
-
-/// The first utility vertex without an out-edge.
-pub(crate) fn first_unused(dag: &IrDag, used: &[bool]) -> Option<usize>
-    requires { used.now ≡ table.used dag.now }
-    ensures { result ≡ failing_from (spec.is_used dag.now) 0 dag.now.vertices }
-{
-    for (v, u) in dag.vertices.as_slice().iter().enumerate() {
-        if is_utility(u.kind) && !is_used(dag, used, v) {
-            return Some(v);
-        }
-    }
-    None
-}
-
-/// The first vertex of which not each port has exactly one in-edge, or an in-edge names another port.
-pub(crate) fn first_unfed(flat: &FlatJob, dag: &IrDag, in_edges: &[List<IrEdge>]) -> Option<usize>
-    requires { in_edges.now ≡ table.in_edges dag.now }
-    ensures { result ≡ failing_from (spec.is_fed flat.now dag.now) 0 dag.now.vertices }
-{
-    for (v, u) in dag.vertices.as_slice().iter().enumerate() {
-        if !names_each(port_count(flat, u), edges_into(dag, in_edges, v)) {
-            return Some(v);
-        }
-    }
-    None
 }
 
 /// Whether each port is named by exactly one of the edges, and no other port is.
@@ -109,36 +72,33 @@ fn is_once(port: u32, edges: &[IrEdge]) -> bool
     edges.iter().filter(|e| e.port == port).count() == 1
 }
 
-/// The first Op that stands for no flat vertex.
-pub(crate) fn first_idle(dag: &IrDag, standing: &[bool]) -> Option<usize>
-    requires { standing.now ≡ table.standing dag.now }
-    ensures { result ≡ failing_from (spec.is_rep dag.now) 0 dag.now.vertices }
+/// Whether the vertex at a place stands for a flat vertex, where it is an Op.
+pub(crate) fn is_rep(candidate: &Candidate<'_>, place: usize) -> bool
+    ensures { result ≡ passes (spec.is_rep candidate.now.index place) (slice_get candidate.now.index.vertices place) }
 {
-    for (v, u) in dag.vertices.as_slice().iter().enumerate() {
-        if !is_utility(u.kind) && !is_standing(dag, standing, v) {
-            return Some(v);
-        }
+    match candidate.index.dag().vertices.get(place) {
+        Some(u) => u.kind.is_utility() || is_standing(candidate, place),
+        None => false,
     }
-    None
+}
+
+#[tactic(auto, using(crate::proofs::Numbered::standing_long, crate::proofs::Numbered::standing_at))]
+fn is_standing(candidate: &Candidate<'_>, v: usize) -> bool
+    requires { v < length candidate.now.index.vertices }
+    ensures { result ≡ list_any (λ r. r == v) candidate.now.index.rep }
+{
+    candidate.lookups.standing[v]
 }
 
 /// The most vertices of a DAG.
 const MAX_VERTICES: usize = 4096;
 
-/// The first vertex whose number or parallelism is too great, or that has no task.
-pub(crate) fn first_beyond(dag: &IrDag) -> Option<usize>
-    ensures { result ≡ failing_from spec.is_within 0 dag.now.vertices }
+/// Whether the number and the parallelism of the vertex at a place are in their ranges.
+pub(crate) fn is_within(dag: &IrDag, place: usize) -> bool
+    ensures { result ≡ passes (spec.is_within place) (slice_get dag.now.vertices place) }
 {
-    for (v, u) in dag.vertices.as_slice().iter().enumerate() {
-        if !is_within(v, u) {
-            return Some(v);
-        }
+    match dag.vertices.get(place) {
+        Some(u) => place < MAX_VERTICES && 1 <= u.parallelism && u.parallelism <= 64,
+        None => false,
     }
-    None
-}
-
-fn is_within(v: usize, u: &IrVertex) -> bool
-    ensures { result ≡ spec.is_within v u.now }
-{
-    v < MAX_VERTICES && 1 <= u.parallelism && u.parallelism <= 64
 }

@@ -4,7 +4,9 @@ use Rattle.std.specs.List.{list_all}
 use Rattle.std.specs.Cmp.{second_so}
 use Rattle.std.proofs.lemmas.Option.{slice_get_within}
 use Rattle.nemo_transform.specs.Brought.{at}
-use Rattle.nemo_transform.specs.Ports.{Main, PortKind, kinds_of}
+use Rattle.nemo_transform.specs.Ports.{kinds_of}
+use Rattle.nemo_transform.specs.declared.shape.PortKind.{PortKind}
+use Rattle.nemo_transform.specs.declared.shape.PortKind.TheVariants.{Main}
 use Rattle.nemo_transform.specs.Tasks.{AllBrought, IsBrought, IsParted, at_task}
 use Rattle.nemo_ir.specs.Flat.{FlatForm, IsFlat, is_input}
 use Rattle.nemo_ir.specs.Nodes.{Deed, Feed, Node, Passes, deed_of, edge_at, feed_of, feeds_from, is_utility, kinds_in, nodes, origin, rep_of, resolve}

@@ -14,7 +14,8 @@ use Rattle.nemo_value.proofs.Permuted.{alike, is, passing}
 use Rattle.nemo_value.proofs.Split.{split}
 use Rattle.nemo_transform.specs.Brought.{all_faults, all_rows}
 use Rattle.nemo_transform.specs.Gives.{key}
-use Rattle.nemo_transform.specs.Ports.{Keyed, Main, PortKind, Side}
+use Rattle.nemo_transform.specs.declared.shape.PortKind.{PortKind}
+use Rattle.nemo_transform.specs.declared.shape.PortKind.TheVariants.{Keyed, Main, Side}
 use Rattle.nemo_transform.specs.Tasks.{IsBrought, IsParted, renamed}
 use Rattle.nemo_base.specs.Cuts.{task_at}
 use Rattle.nemo_ir.specs.Part.{Parts, all_tasks, brought, dealt, task_of}

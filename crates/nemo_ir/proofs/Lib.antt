@@ -12,5 +12,6 @@ pub mod PortEdges
 pub mod Reps
 pub mod Sources
 pub mod Steps
+pub mod Tables
 pub mod ValidNodes
 pub mod WiredNodes

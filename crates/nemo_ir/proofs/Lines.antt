@@ -1,7 +1,7 @@
 -- Lines and their nodes, place by place.
 use Rattle.std.proofs.Common.{option_map, arith, ◌≡◌, ◌∙◌, ap, sym, refl, ℕ, zero, suc, ◌+◌, List, [], ◌∷◌, length, slice_get, Some}
 use Rattle.std.proofs.lemmas.Option.{slice_get-map}
-use Rattle.nemo_transform.specs.Ports.{PortKind}
+use Rattle.nemo_transform.specs.declared.shape.PortKind.{PortKind}
 use Rattle.nemo_transform.specs.declared.transform.Transform.{Transform}
 use Rattle.nemo_ir.specs.Flat.{FlatForm}
 use Rattle.nemo_ir.specs.Line.{IsLine, one_before}

@@ -3,7 +3,7 @@ use Rattle.std.proofs.Common.{arith, ◌≡◌, ◌∙◌, ap, sym, subst, ℕ, 
 use Rattle.std.proofs.lemmas.Bool.{cases_lt}
 use Rattle.std.proofs.lemmas.List.{get_or-take}
 use Rattle.std.proofs.lemmas.Option.{slice_get_within}
-use Rattle.nemo_transform.specs.Ports.{PortKind}
+use Rattle.nemo_transform.specs.declared.shape.PortKind.{PortKind}
 use Rattle.nemo_ir.specs.Flat.{FlatForm}
 use Rattle.nemo_ir.specs.Nodes.{Feed, Node, edge_at, feed_of, feeds_from, node_of, nodes, origin}
 use Rattle.nemo_ir.specs.Part.{Parts, all_parts, brought, done_by, no_parts, part_step}

@@ -3,7 +3,7 @@ use Rattle.std.proofs.Common.{arith, ◌≡◌, ◌∙◌, ap, sym, subst, ℕ, 
 use Rattle.std.proofs.lemmas.Bool.{eqb-true, leb-true}
 use Rattle.std.proofs.lemmas.Option.{slice_get_within}
 use Rattle.std.specs.Cmp.{first_so, second_so}
-use Rattle.nemo_transform.specs.Ports.{PortKind}
+use Rattle.nemo_transform.specs.declared.shape.PortKind.{PortKind}
 use Rattle.nemo_ir.specs.Along.{passes}
 use Rattle.nemo_ir.specs.Flat.{FlatForm}
 use Rattle.nemo_ir.specs.Nodes.{Node, edge_at, feed_of, feeds_from, node_of, nodes}

@@ -1,6 +1,6 @@
 -- How the nodes of a valid DAG are wired.
 use Rattle.std.proofs.Common.{◌≡◌, ◌<◌, ◌≤◌, ℕ, List, [], ◌∷◌, slice_get, Some, true}
-use Rattle.nemo_transform.specs.Ports.{PortKind}
+use Rattle.nemo_transform.specs.declared.shape.PortKind.{PortKind}
 use Rattle.nemo_ir.specs.Nodes.{Feed, Node, kinds_in}
 use Rattle.nemo_ir.specs.Valid.{is_one_to_one, takes}
 

@@ -21,13 +21,16 @@ transform_of flat x = slice_get flat.transforms x.transform
 abbrev pub has_ports : FlatForm → FlatVertex → Bool
 has_ports flat x = passes (λ t. length (kinds_of t) == length x.inputs) (transform_of flat x)
 
+abbrev pub does_sink : Transform → Bool
+does_sink (Sink name) = true
+does_sink _ = false
+
 abbrev pub sink_name : Option Transform → Option (List ℕ)
 sink_name (Some (Sink name)) = Some name
 sink_name _ = None
 
 abbrev pub is_sink : Option Transform → Bool
-is_sink (Some (Sink name)) = true
-is_sink _ = false
+is_sink o = passes does_sink o
 
 -- whether a vertex takes what the vertex of this number gives
 abbrev pub feeds_one : FlatForm → ℕ → Bool

@@ -1,5 +1,6 @@
 pub mod Along
 pub mod Flat
+pub mod Index
 pub mod Line
 pub mod Nodes
 pub mod Part

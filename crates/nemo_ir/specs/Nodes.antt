@@ -2,7 +2,9 @@
 use Rattle.std.specs.Prelude.{ℕ, ◌+◌, ◌==◌, ◌&&◌, Bool, true, false, List, [], ◌∷◌, length, position, slice_get, slice_index_or, unwrap_or, Option, Some, None, if◌then◌else◌}
 use Rattle.nemo_base.specs.declared.annotation.Pattern.{Pattern}
 use Rattle.nemo_base.specs.declared.annotation.Pattern.TheVariants.{OneToOne}
-use Rattle.nemo_transform.specs.Ports.{PortKind, Main, kinds_of}
+use Rattle.nemo_transform.specs.Ports.{kinds_of}
+use Rattle.nemo_transform.specs.declared.shape.PortKind.{PortKind}
+use Rattle.nemo_transform.specs.declared.shape.PortKind.TheVariants.{Main}
 use Rattle.nemo_transform.specs.declared.transform.Transform.{Transform}
 use Rattle.nemo_ir.specs.Along.{along}
 use Rattle.nemo_ir.specs.declared.dag.IrDag.{IrDag}
@@ -24,6 +26,12 @@ abbrev pub deed_of : List Transform → VertexKind → Deed
 deed_of transforms (Op k) = deed_or (slice_get transforms k)
 deed_of transforms Relay = Passes
 deed_of transforms Trigger = Passes
+
+-- its transform, where it has one
+abbrev pub transform_in : Deed → Option Transform
+transform_in (Does t) = Some t
+transform_in Passes = None
+transform_in Nothing = None
 
 -- the ports of what a vertex does
 abbrev pub kinds_in : Deed → List PortKind

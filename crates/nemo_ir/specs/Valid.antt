@@ -3,19 +3,19 @@ use Rattle.std.specs.Prelude.{◌≡◌, ◌⊎◌, ◌<◌, ℕ, ◌+◌, ◌==
 use Rattle.std.specs.List.{list_all, list_any}
 use Rattle.nemo_base.specs.declared.annotation.Pattern.{Pattern}
 use Rattle.nemo_base.specs.declared.annotation.Pattern.TheVariants.{OneToOne, Broadcast, Hash, Spread}
-use Rattle.nemo_transform.specs.Ports.{PortKind, Main, Keyed, Side}
+use Rattle.nemo_transform.specs.declared.shape.PortKind.{PortKind}
+use Rattle.nemo_transform.specs.declared.shape.PortKind.TheVariants.{Main, Keyed, Side}
 use Rattle.nemo_ir.specs.Along.{below, passes}
 use Rattle.nemo_ir.specs.Flat.{FlatForm, transform_of}
 use Rattle.nemo_ir.specs.Nodes.{Node, nodes, deed_of, deed_or, kinds_in, is_utility, resolve, rep_of}
+pub use Rattle.nemo_ir.specs.declared.clause.Clause.{Clause}
+pub use Rattle.nemo_ir.specs.declared.clause.Clause.TheVariants.{V1, V2, V3, V4, V5, V6, V7, V8, V9}
 use Rattle.nemo_ir.specs.declared.dag.IrDag.{IrDag}
 use Rattle.nemo_ir.specs.declared.dag.IrEdge.{IrEdge}
 use Rattle.nemo_ir.specs.declared.dag.IrVertex.{IrVertex}
 use Rattle.nemo_ir.specs.declared.dag.VertexKind.{VertexKind}
 use Rattle.nemo_ir.specs.declared.dag.VertexKind.TheVariants.{Trigger}
 use Rattle.nemo_ir.specs.declared.flat.FlatVertex.{FlatVertex}
-
-pub data Clause : Type 0 where
-  V1 V2 V3 V4 V5 V6 V7 V8 V9 : Clause
 
 abbrev pub number_of : Clause → ℕ
 number_of V1 = 1
@@ -151,6 +151,15 @@ pub record Valid (flat : FlatForm) (dag : IrDag) : Type 0 where
   pub v7 : Holds flat dag V7
   pub v8 : Holds flat dag V8
   pub v9 : Holds flat dag V9
+
+-- the first six clauses, which a DAG meets before any pass
+pub record IsFirst (flat : FlatForm) (dag : IrDag) : Type 0 where
+  pub v1 : Holds flat dag V1
+  pub v2 : Holds flat dag V2
+  pub v3 : Holds flat dag V3
+  pub v4 : Holds flat dag V4
+  pub v5 : Holds flat dag V5
+  pub v6 : Holds flat dag V6
 
 -- the least place at which a clause isn't met
 pub record FailsAt (flat : FlatForm) (dag : IrDag) (c : Clause) (i : ℕ) : Type 0 where

@@ -4,7 +4,7 @@ use std::alloc::Global;
 use std::marker::Model;
 
 /// A vertex of a flat job: a copy of a job's vertex, named by its path.
-#[derive(Debug, Drop)]
+#[derive(Drop)]
 pub struct FlatVertex {
     pub name: Text,
     /// The place of its transform in the job's table.
@@ -16,7 +16,7 @@ pub struct FlatVertex {
 /// A flat job: the copies of a job's vertices in the order of evaluation, and the transforms that they share. It has 1
 /// to 512 vertices of sound transforms, as many inputs at each as its transform has ports, inputs of lower numbers that
 /// are no sinks, no vertex that reaches no sink, and no two sinks of one name.
-#[derive(Debug, Drop)]
+#[derive(Drop)]
 pub struct FlatJob {
     pub transforms: List<Transform>,
     pub vertices: List<FlatVertex>,

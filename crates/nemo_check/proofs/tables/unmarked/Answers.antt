@@ -1,5 +1,5 @@
 use Rattle.std.proofs.Common.{◌≡◌, ◌∙◌, ap, sym, false, replicate, arith}
-use Rattle.nemo_check.proofs.Numbered.{below_same}
+use Rattle.nemo_ir.proofs.Tables.{below_same}
 use Rattle.nemo_check.proofs.tables.unmarked.Goals as goal
 
 pub returns : goal.returns
