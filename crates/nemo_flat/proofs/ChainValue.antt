@@ -29,7 +29,8 @@ use Rattle.nemo_job.proofs.ChainMean.{parts}
 use Rattle.nemo_flat.proofs.ChainFlat.{chain_is, end_op, map_op, nameless, row_of, source_op, table, table_more}
 use Rattle.nemo_ir.proofs.Places.{map_at-length, map_at-whole, ended, from_none, got, last_only, same_item}
 use Rattle.nemo_job.proofs.ChainMean.{chain_rows, chain_sound}
-use Rattle.nemo_job.specs.Sinks.{arisen_cmp, by_name, job_faults, job_rows}
+use Rattle.nemo_job.specs.ByPlace.{place_cmp}
+use Rattle.nemo_job.specs.Sinks.{in_order, job_faults, job_rows}
 use Rattle.nemo_value.specs.Order.{record_cmp}
 use Rattle.nemo_value.specs.Sorting.{sorted}
 use Rattle.std.proofs.lemmas.List.{length-map}
@@ -205,12 +206,12 @@ split (s ∷ v ∷ vs) h P f =
 pub keeps_rows : (vs : List JobVertex) → is_built vs ≡ true → flat_rows (flat_of vs) ≡ job_rows vs
 keeps_rows vs h = split vs h (λ us. flat_rows (flat_of us) ≡ job_rows us)
     (λ s ms k b.
-    ap (λ rs. sorted by_name (map (λ r. record { name = r.name; rows = sorted record_cmp r.brought.rows }) rs)) (one_reached s ms k b) ∙ sym (chain_rows s ms k b))
+    ap (λ rs. in_order (map (λ r. record { name = r.name; rows = r.brought.rows }) rs)) (one_reached s ms k b) ∙ sym (chain_rows s ms k b))
 
 pub keeps_none : (vs : List JobVertex) → is_built vs ≡ true → flat_faults (flat_of vs) ≡ []
 keeps_none vs h = split vs h (λ us. flat_faults (flat_of us) ≡ [])
     (λ s ms k b.
-    ap (λ rs. ascending (arisen_cmp (map (λ x. x.name) (flat_of (s ∷ (ms ++ k ∷ []))).vertices)) (map (by_path (flat_of (s ∷ (ms ++ k ∷ [])))) (flat_map (λ r. r.brought.faults) rs))) (one_reached s ms k b))
+    ap (λ rs. map (by_path (flat_of (s ∷ (ms ++ k ∷ [])))) (ascending place_cmp (flat_map (λ r. r.brought.faults) rs))) (one_reached s ms k b))
 
 pub keeps_faults : (vs : List JobVertex) → is_built vs ≡ true → flat_faults (flat_of vs) ≡ job_faults vs
 keeps_faults vs h = keeps_none vs h ∙ sym (split vs h (λ us. job_faults us ≡ []) chain_sound)

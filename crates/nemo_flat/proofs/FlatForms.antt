@@ -7,6 +7,7 @@ use Rattle.std.specs.List.{cons_option, filter_map, list_all, list_any}
 use Rattle.nemo_value.proofs.Members.{In}
 use Rattle.nemo_value.specs.Texts.{all_new}
 use Rattle.nemo_value.specs.declared.record.SinkRows.{SinkRows}
+use Rattle.nemo_transform.specs.Gives.{Row}
 use Rattle.nemo_transform.specs.Ports.{kinds_of}
 use Rattle.nemo_transform.specs.Soundness.{is_few, is_sound}
 use Rattle.nemo_transform.specs.declared.transform.Transform.{Transform}
@@ -97,14 +98,14 @@ names_kept place (c ∷ cs) = go (is_wanted (kept_from (place + 1) cs) place c) 
     go true e ih = ap (cons_option (sink_name (Some c.transform))) ih
     go false e ih = ih ∙ ap (λ o. cons_option o (filter_map (λ d. sink_name (Some d.transform)) cs)) (sym (nameless c.transform (or_none (does_sink c.transform) (is_taken place (kept_from (place + 1) cs)) e)))
 
-name_at : (t : Transform) (f : ByPlace) (sinks : List SinkRows) → map (λ s. s.name) (option_to_list (sink_at t f) ++ sinks) ≡ cons_option (sink_name (Some t)) (map (λ s. s.name) sinks)
-name_at (Sink name) f sinks = refl
-name_at _ f sinks = refl
+name_at : (t : Transform) (rows : List Row) (sinks : List SinkRows) → map (λ s. s.name) (option_to_list (sink_at t rows) ++ sinks) ≡ cons_option (sink_name (Some t)) (map (λ s. s.name) sinks)
+name_at (Sink name) rows sinks = refl
+name_at _ rows sinks = refl
 
 names_given : (cs : List Copy) (fs : List ByPlace) → length fs ≡ length cs → map (λ s. s.name) (sinks_given (map placed_copy cs) fs) ≡ filter_map (λ c. sink_name (Some c.transform)) cs
 names_given [] fs h = refl
 names_given (c ∷ cs) [] h = absurd (omega arith)
-names_given (c ∷ cs) (f ∷ fs) h = name_at c.transform f (sinks_given (map placed_copy cs) fs) ∙ ap (cons_option (sink_name (Some c.transform))) (names_given cs fs (omega arith))
+names_given (c ∷ cs) (f ∷ fs) h = name_at c.transform f.rows (sinks_given (map placed_copy cs) fs) ∙ ap (cons_option (sink_name (Some c.transform))) (names_given cs fs (omega arith))
 
 ---- the flat job
 

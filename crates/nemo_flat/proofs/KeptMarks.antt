@@ -1,63 +1,22 @@
--- Which copies are kept, found from the last copy back.
-use Rattle.std.proofs.Common.{arith, ◌≡◌, ◌≢◌, ◌∙◌, ap, sym, refl, ℕ, zero, suc, ◌+◌, ◌<◌, ◌≤◌, ◌⊎◌, inl, inr, List, [], ◌∷◌, length, map, slice_get, set, Bool, true, false, ◌==◌, ◌||◌, cond, get_or, take, drop, Some}
+-- The copies that are kept are those that a later one, or the end, is noted for.
+use Rattle.std.proofs.Common.{arith, ◌≡◌, ◌≢◌, ◌∙◌, ap, sym, refl, subst, ℕ, zero, suc, ◌+◌, ◌<◌, ◌≤◌, ◌⊎◌, inl, inr, List, [], ◌∷◌, length, map, slice_get, Bool, true, false, ◌==◌, ◌||◌, cond, drop, get_or, Option, Some, None, true≢false}
 use Rattle.std.specs.List.{list_any}
-use Rattle.std.proofs.Math.Seq.{drop-length}
-use Rattle.std.proofs.lemmas.Bool.{ne_eqb}
-use Rattle.std.proofs.lemmas.Bool.Decides.{eqb_tells}
-use Rattle.std.proofs.lemmas.List.{get_or-set_other, get_or-set_same, length-map, length-set, take_more}
-use Rattle.std.proofs.lemmas.List.Folds.{list_any-append}
-use Rattle.std.proofs.lemmas.Option.{get_or_from_slice_get, slice_get-get_or, slice_get-map, slice_get_read, slice_get_within}
-use Rattle.std.specs.Option.{option_map}
-use Rattle.nemo_job.specs.Held.{does_sink}
+use Rattle.std.proofs.lemmas.Bool.{eqb-true, ne_eqb}
+use Rattle.std.proofs.lemmas.List.{length-map}
+use Rattle.std.proofs.lemmas.Option.{slice_get-map, slice_get_read, slice_get_within}
+use Rattle.std.specs.Option.{is_some, option_map}
+use Rattle.nemo_value.proofs.Members.{In}
+use Rattle.nemo_job.specs.ByPlace.{Placed}
+use Rattle.nemo_job.specs.Held.{IsLast, IsLower, IsTaken, does_sink, node_of}
 use Rattle.nemo_job.specs.Nodes.{copy_of}
-use Rattle.nemo_job.specs.Unrolled.{Copy}
+use Rattle.nemo_job.specs.Unrolled.{Copy, placed_copy}
 use Rattle.nemo_job.specs.declared.copies.Node.{Node}
 use Rattle.nemo_ir.proofs.Places.{got, same_item}
-use Rattle.nemo_flat.specs.Flattened.{Numbered, is_taken, kept_from}
-use Rattle.nemo_flat.specs.Keeping.{IsMarked, is_wanted}
+use Rattle.nemo_flat.specs.Flattened.{Numbered, is_taken, kept, kept_from}
+use Rattle.nemo_flat.specs.Keeping.{is_wanted}
+use Rattle.nemo_flat.proofs.KeptCopies.{KeptAt, at_in, copy_at, input_kept, reason_kept, sink_kept}
 
----- places that are marked
-
-set_one : (marks : List Bool) (j i : ℕ) (b : Bool) → j < length marks → slice_get marks i ≡ Some b → slice_get (set marks j true) i ≡ Some ((j == i) || b)
-set_one marks j i b inside e = go (eqb_tells j i)
-  where
-    within : i < length (set marks j true)
-    within = omega (arith, slice_get_within marks i b e, length-set marks j true)
-
-    read : slice_get (set marks j true) i ≡ Some (get_or (set marks j true) i false)
-    read = slice_get-get_or (set marks j true) i false within
-
-    go : ((j == i) ≡ true) × (j ≡ i) ⊎ ((j == i) ≡ false) × (j ≢ i) → slice_get (set marks j true) i ≡ Some ((j == i) || b)
-    go (inl p) = read ∙ ap Some (ap (λ k. get_or (set marks j true) k false) (sym p.1) ∙ get_or-set_same marks j true false inside) ∙ ap (λ c. Some (c || b)) (sym p.0)
-    go (inr p) = read ∙ ap Some (get_or-set_other marks j i true false (λ q. p.1 (sym q)) ∙ get_or_from_slice_get marks i b false e) ∙ ap (λ c. Some (c || b)) (sym p.0)
-
-one_more : (a b c : Bool) → (c || (a || b)) ≡ ((a || (c || false)) || b)
-one_more true b true = refl
-one_more true b false = refl
-one_more false b true = refl
-one_more false b false = refl
-
-pub keeps_next : (inputs : List ℕ) (n i : ℕ) (marks : List Bool) (b : Bool) → n < length inputs → get_or inputs n 0 < length marks
-    → slice_get marks i ≡ Some (list_any (λ j. j == i) (take n inputs) || b) → slice_get (set marks (get_or inputs n 0) true) i ≡ Some (list_any (λ j. j == i) (take (n + 1) inputs) || b)
-keeps_next inputs n i marks b l inside e =
-    let test : ℕ → Bool = λ j. j == i in
-    set_one marks (get_or inputs n 0) i (list_any test (take n inputs) || b) inside e
-    ∙ ap Some (one_more (list_any test (take n inputs)) b (test (get_or inputs n 0)))
-    ∙ ap (λ c. Some (c || b)) (sym (ap (list_any test) (take_more inputs n 0 l) ∙ list_any-append test (take n inputs) (get_or inputs n 0 ∷ [])))
-
----- from the last copy back
-
-or_none : (b : Bool) → b ≡ (b || false)
-or_none true = refl
-or_none false = refl
-
-pub begins : (cs : List Copy) (n : ℕ) → n ≡ length cs → IsMarked cs n (map (λ c. does_sink c.transform) cs)
-begins cs n size = record {
-  size = length-map cs (λ c. does_sink c.transform);
-  right = λ i c e.
-      let none : kept_from n (drop n cs) ≡ [] = ap (λ k. kept_from n (drop k cs)) size ∙ ap (kept_from n) (drop-length cs) in
-      slice_get-map (λ c. does_sink c.transform) cs i ∙ ap (option_map (λ c. does_sink c.transform)) e ∙ ap Some (or_none (does_sink c.transform)) ∙ ap (λ ns. Some (is_wanted ns i c)) (sym none);
-}
+---- the copies kept from a place on
 
 drop_at : {X : Type 0} (xs : List X) (i : ℕ) (x : X) → slice_get xs i ≡ Some x → drop i xs ≡ x ∷ drop (i + 1) xs
 drop_at [] i x e = cc
@@ -69,42 +28,92 @@ pub kept_at : (cs : List Copy) (i : ℕ) (c : Copy) → slice_get cs i ≡ Some 
     → kept_from i (drop i cs) ≡ cond (is_wanted (kept_from (i + 1) (drop (i + 1) cs)) i c) (record { place = i; copy = c } ∷ kept_from (i + 1) (drop (i + 1) cs)) (kept_from (i + 1) (drop (i + 1) cs))
 kept_at cs i c e = ap (kept_from i) (drop_at cs i c e)
 
-pub is_mark : (cs : List Copy) (place i : ℕ) (c : Copy) (b : Bool) (marks : List Bool) → IsMarked cs place marks → slice_get cs i ≡ Some c → i < length marks → b ≡ get_or marks i b
-    → is_wanted (kept_from place (drop place cs)) i c ≡ b
-is_mark cs place i c b marks m e inside is =
-    same_item (is_wanted (kept_from place (drop place cs)) i c) b (sym (m.right i c e) ∙ slice_get-get_or marks i b inside ∙ ap Some (sym is))
-
-or_turn : (a b c : Bool) → (a || (b || c)) ≡ (b || (a || c))
-or_turn true true c = refl
-or_turn true false c = refl
-or_turn false true c = refl
-or_turn false false c = refl
-
-pub turns : (cs : List Copy) (at : ℕ) (c : Copy) (old new : List Bool) → slice_get cs at ≡ Some c → is_wanted (kept_from (at + 1) (drop (at + 1) cs)) at c ≡ true → IsMarked cs (at + 1) old
-    → length new ≡ length old → ((i : ℕ) (b : Bool) → slice_get old i ≡ Some b → slice_get new i ≡ Some (list_any (λ j. j == i) c.inputs || b)) → IsMarked cs at new
-turns cs at c old new e wanted m size marks =
-    let rest = kept_from (at + 1) (drop (at + 1) cs) in
-    let is : kept_from at (drop at cs) ≡ record { place = at; copy = c } ∷ rest = kept_at cs at c e ∙ ap (λ b. cond b (record { place = at; copy = c } ∷ rest) rest) wanted in
-    record {
-      size = size ∙ m.size;
-      right = λ i d g.
-          marks i (is_wanted rest i d) (m.right i d g)
-          ∙ ap Some (or_turn (list_any (λ j. j == i) c.inputs) (does_sink d.transform) (is_taken i rest))
-          ∙ ap (λ ns. Some (is_wanted ns i d)) (sym is);
-    }
-
-pub passes_by : (cs : List Copy) (at : ℕ) (c : Copy) (marks : List Bool) → slice_get cs at ≡ Some c → is_wanted (kept_from (at + 1) (drop (at + 1) cs)) at c ≡ false → IsMarked cs (at + 1) marks → IsMarked cs at marks
-passes_by cs at c marks e wanted m =
-    let rest = kept_from (at + 1) (drop (at + 1) cs) in
-    let is : kept_from at (drop at cs) ≡ rest = kept_at cs at c e ∙ ap (λ b. cond b (record { place = at; copy = c } ∷ rest) rest) wanted in
-    record { size = m.size; right = λ i d g. m.right i d g ∙ ap (λ ns. Some (is_wanted ns i d)) (sym is) }
-
 ---- the copy of a node
 
 pub node_at : (nodes : List Node) (i : ℕ) (n : Node) → i < length nodes → n ≡ get_or nodes i n → slice_get (map copy_of nodes) i ≡ Some (copy_of n)
 node_at nodes i n l is = slice_get-map copy_of nodes i ∙ ap (option_map copy_of) (slice_get_read nodes (length nodes) i n refl l is)
 
----- where all is marked
+pub nodes_placed : (nodes : List Node) → map node_of nodes ≡ map placed_copy (map copy_of nodes)
+nodes_placed [] = refl
+nodes_placed (n ∷ nodes) = ap (λ ps. node_of n ∷ ps) (nodes_placed nodes)
+
+-- where copies take those before them
+pub placed_lower : (cs : List Copy) → ((i k j : ℕ) (c : Copy) → slice_get cs i ≡ Some c → slice_get c.inputs k ≡ Some j → j < i) → IsLower (map placed_copy cs)
+placed_lower cs lower i p k j at e =
+    let within : i < length (map placed_copy cs) = slice_get_within (map placed_copy cs) i p at in
+    let size : length (map placed_copy cs) ≡ length cs = length-map cs placed_copy in
+    let g = got cs i (omega arith) in
+    let same : p ≡ placed_copy g.0 = same_item p (placed_copy g.0) (sym at ∙ slice_get-map placed_copy cs i ∙ ap (option_map placed_copy) g.1) in
+    lower i k j g.0 g.1 (sym (ap (λ q. slice_get q.inputs k) same) ∙ e)
+
+---- what is noted is kept
+
+any_out : {X : Type 0} (p : X → Bool) (xs : List X) → list_any p xs ≡ true → (k : ℕ) × (x : X) × (slice_get xs k ≡ Some x) × (p x ≡ true)
+any_out p [] h = cc
+any_out {X = X} p (x ∷ xs) h = go (p x) refl (any_out p xs) h
+  where
+    go : (b : Bool) → p x ≡ b → (list_any p xs ≡ true → (k : ℕ) × (y : X) × (slice_get xs k ≡ Some y) × (p y ≡ true)) → (b || list_any p xs) ≡ true
+        → (k : ℕ) × (y : X) × (slice_get (x ∷ xs) k ≡ Some y) × (p y ≡ true)
+    go true e more t = (0, x, refl, e)
+    go false e more t = let r = more t in (suc r.0, r.1, r.2, r.3)
+
+module _ (cs : List Copy) (last : List (Option ℕ)) (lower : IsLower (map placed_copy cs)) (l : IsLast (map placed_copy cs) last) where
+  placed_at : (i : ℕ) (c : Copy) → slice_get cs i ≡ Some c → slice_get (map placed_copy cs) i ≡ Some (placed_copy c)
+  placed_at i c e = slice_get-map placed_copy cs i ∙ ap (option_map placed_copy) e
+
+  marked_kept : (fuel i u : ℕ) (c : Copy) → length cs ≤ i + fuel → slice_get cs i ≡ Some c → slice_get last i ≡ Some (Some u) → KeptAt (kept cs) i
+  marked_kept zero i u c f e mark = let inside : i < length cs = slice_get_within cs i c e in absurd (omega arith)
+  marked_kept (suc fuel) i u c f e mark = go (marked_kept fuel) (l.only i u (placed_copy c) (placed_at i c e) mark)
+    where
+      go : ((j v : ℕ) (d : Copy) → length cs ≤ j + fuel → slice_get cs j ≡ Some d → slice_get last j ≡ Some (Some v) → KeptAt (kept cs) j)
+          → (does_sink c.transform ≡ true) ⊎ IsTaken (map placed_copy cs) last i u → KeptAt (kept cs) i
+      go ih (inl sink) = (record { place = i; copy = c }, sink_kept cs i c e sink, refl)
+      go ih (inr t) =
+          let q : Placed = t.0 in
+          let at : slice_get (map placed_copy cs) u ≡ Some q = t.3 in
+          let within : u < length (map placed_copy cs) = slice_get_within (map placed_copy cs) u q at in
+          let size : length (map placed_copy cs) ≡ length cs = length-map cs placed_copy in
+          let g = got cs u (omega arith) in
+          let same : q ≡ placed_copy g.0 = same_item q (placed_copy g.0) (sym at ∙ placed_at u g.0 g.1) in
+          let later : i < u = lower u q t.1 i at t.4 in
+          let by = ih u t.2 g.0 (omega arith) g.1 t.5 in
+          let n : Numbered = by.0 in
+          let copy : n.copy ≡ g.0 = same_item n.copy g.0 (sym (copy_at cs n by.1) ∙ ap (slice_get cs) by.2 ∙ g.1) in
+          let input : slice_get n.copy.inputs t.1 ≡ Some i = ap (λ (d : Copy). slice_get d.inputs t.1) copy ∙ sym (ap (λ (p : Placed). slice_get p.inputs t.1) same) ∙ t.4 in
+          (input_kept cs lower n by.1 t.1 i input).1
+
+  wanted_marked : (fuel i : ℕ) (c : Copy) → length cs ≤ i + fuel → slice_get cs i ≡ Some c → is_wanted (kept cs) i c ≡ true → (u : ℕ) × (slice_get last i ≡ Some (Some u))
+  wanted_marked zero i c f e w = let inside : i < length cs = slice_get_within cs i c e in absurd (omega arith)
+  wanted_marked (suc fuel) i c f e w = go (wanted_marked fuel) (does_sink c.transform) refl w
+    where
+      go : ((j : ℕ) (d : Copy) → length cs ≤ j + fuel → slice_get cs j ≡ Some d → is_wanted (kept cs) j d ≡ true → (v : ℕ) × (slice_get last j ≡ Some (Some v)))
+          → (b : Bool) → does_sink c.transform ≡ b → (b || is_taken i (kept cs)) ≡ true → (u : ℕ) × (slice_get last i ≡ Some (Some u))
+      go ih true sink t = (length (map placed_copy cs), l.sinks i (placed_copy c) (placed_at i c e) sink)
+      go ih false sink t =
+          let a = any_out (λ (n : Numbered). list_any (λ j. j == i) n.copy.inputs) (kept cs) t in
+          let n : Numbered = a.1 in
+          let m : In n (kept cs) = at_in (kept cs) a.0 n a.2 in
+          let b = any_out (λ j. j == i) n.copy.inputs a.3 in
+          let is : b.1 ≡ i = eqb-true b.1 i b.3 in
+          let input : slice_get n.copy.inputs b.0 ≡ Some i = b.2 ∙ ap Some is in
+          let later : i < n.place = (input_kept cs lower n m b.0 i input).0 in
+          let by = ih n.place n.copy (omega arith) (copy_at cs n m) (reason_kept cs n m) in
+          let r = l.inputs n.place (placed_copy n.copy) b.0 i by.0 (placed_at n.place n.copy (copy_at cs n m)) input by.1 in
+          (r.0, r.1)
+
+  whole : (i : ℕ) (c : Copy) (o : Option ℕ) → slice_get cs i ≡ Some c → slice_get last i ≡ Some o → is_wanted (kept cs) i c ≡ is_some o
+  whole i c (Some u) e read =
+      let by = marked_kept (length cs) i u c (omega arith) e read in
+      let n : Numbered = by.0 in
+      let copy : n.copy ≡ c = same_item n.copy c (sym (copy_at cs n by.1) ∙ ap (slice_get cs) by.2 ∙ e) in
+      sym (λ k. is_wanted (kept cs) (by.2 k) (copy k)) ∙ reason_kept cs n by.1
+  whole i c None e read = go (is_wanted (kept cs) i c) refl
+    where
+      go : (b : Bool) → is_wanted (kept cs) i c ≡ b → is_wanted (kept cs) i c ≡ false
+      go true w = let by = wanted_marked (length cs) i c (omega arith) e w in let both : Some None ≡ Some (Some by.0) = sym read ∙ by.1 in cc
+      go false w = w
+
+---- by those after it
 
 none_at : (xs : List ℕ) (m i : ℕ) → ((k j : ℕ) → slice_get xs k ≡ Some j → j < m) → m ≤ i → list_any (λ j. j == i) xs ≡ false
 none_at [] m i low le = refl
@@ -127,7 +136,8 @@ taken_after cs i (suc d) m lower l is =
     skip true n c rest none = ap (λ b. b || is_taken i rest) none
     skip false n c rest none = refl
 
-pub is_final : (cs : List Copy) (i : ℕ) (c : Copy) (b : Bool) (marks : List Bool) → ((n k j : ℕ) (d : Copy) → slice_get cs n ≡ Some d → slice_get d.inputs k ≡ Some j → j < n) → IsMarked cs 0 marks
-    → slice_get cs i ≡ Some c → i < length marks → b ≡ get_or marks i b → is_wanted (kept_from (i + 1) (drop (i + 1) cs)) i c ≡ b
-is_final cs i c b marks lower m e inside is =
-    ap (λ t. does_sink c.transform || t) (sym (taken_after cs i (i + 1) 0 lower (slice_get_within cs i c e) (omega arith))) ∙ is_mark cs 0 i c b marks m e inside is
+pub is_final : (cs : List Copy) (last : List (Option ℕ)) (i : ℕ) (c : Copy) (o : Option ℕ) → ((n k j : ℕ) (d : Copy) → slice_get cs n ≡ Some d → slice_get d.inputs k ≡ Some j → j < n)
+    → IsLast (map placed_copy cs) last → slice_get cs i ≡ Some c → i < length last → o ≡ get_or last i o → is_wanted (kept_from (i + 1) (drop (i + 1) cs)) i c ≡ is_some o
+is_final cs last i c o lower l e inside is =
+    ap (λ t. does_sink c.transform || t) (sym (taken_after cs i (i + 1) 0 lower (slice_get_within cs i c e) (omega arith)))
+    ∙ whole cs last (placed_lower cs lower) l i c o e (slice_get_read last (length last) i o refl inside is)

@@ -10,6 +10,7 @@ pub mod Flattening
 pub mod KeptCopies
 pub mod KeptFaults
 pub mod KeptMarks
+pub mod KeptNames
 pub mod KeptOrder
 pub mod KeptValues
 pub mod KeptVertices

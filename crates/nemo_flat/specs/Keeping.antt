@@ -1,9 +1,9 @@
 -- What the copies are that become vertices of a flat job, and which of them do.
-use Rattle.std.specs.Prelude.{◌≡◌, ◌≤◌, ◌<◌, ℕ, ◌||◌, Bool, List, length, map, drop, slice_get, slice_index_or, Some}
+use Rattle.std.specs.Prelude.{◌≡◌, ◌≤◌, ◌<◌, ℕ, ◌||◌, Bool, List, length, map, slice_get, slice_index_or, Some}
 use Rattle.nemo_ir.specs.declared.flat.FlatVertex.{FlatVertex}
 use Rattle.nemo_job.specs.Held.{does_sink}
 use Rattle.nemo_job.specs.Unrolled.{Copy}
-use Rattle.nemo_flat.specs.Flattened.{Numbered, is_taken, kept_from}
+use Rattle.nemo_flat.specs.Flattened.{Numbered, is_taken}
 
 -- at most 512 copies that take those before them, of short paths
 pub record IsKeepable (cs : List Copy) : Type 0 where
@@ -15,11 +15,6 @@ pub record IsKeepable (cs : List Copy) : Type 0 where
 -- whether the copy of a place is a sink, or one of these takes it
 abbrev pub is_wanted : List Numbered → ℕ → Copy → Bool
 is_wanted ns place c = does_sink c.transform || is_taken place ns
-
--- The copies are marked that are sinks, or that those kept from a place on take.
-pub record IsMarked (cs : List Copy) (place : ℕ) (marks : List Bool) : Type 0 where
-  pub size : length marks ≡ length cs
-  pub right : (i : ℕ) (c : Copy) → slice_get cs i ≡ Some c → slice_get marks i ≡ Some (is_wanted (kept_from place (drop place cs)) i c)
 
 -- the vertex of a copy, where these are the numbers of the copies before it
 abbrev pub vertex_of : List ℕ → Copy → FlatVertex

@@ -4,4 +4,5 @@ pub mod Flat
 pub mod Flattened
 pub mod Keeping
 pub mod Meaning
+pub mod Names
 pub mod Table

@@ -1,13 +1,16 @@
-ghost use Rattle.std.specs.Prelude.{◌≡◌, ◌≤◌, true, IfOk, IfErr};
+ghost use Rattle.std.specs.Prelude.{◌≡◌, ◌≤◌, ◌^◌, ◌-◌, [], min, true, IfOk, IfErr, OnOk};
+ghost use Rattle.std.specs.List.{list_all};
+ghost use Rattle.nemo_value.specs.Texts.{all_new};
 ghost use Rattle.nemo_flat.specs.Counts.{IsTooMany, copies};
 ghost use Rattle.nemo_flat.specs.Flat.{flat_of};
 ghost use Rattle.nemo_flat.specs.Flattened.{flattened};
-ghost use Rattle.nemo_flat.specs.Meaning.{flat_faults, flat_rows};
+ghost use Rattle.nemo_flat.specs.Meaning.{flat_faults, flat_reached, flat_rows};
+ghost use Rattle.nemo_flat.specs.Names.{is_word, vertex_names};
 ghost use Rattle.nemo_flat.specs.declared.copies.FlattenRefused.{FlattenRefused};
 ghost use Rattle.nemo_ir.specs.Line.{IsLine};
 ghost use Rattle.nemo_job.specs.Chain.{is_built};
 ghost use Rattle.nemo_job.specs.Refusals.{IsJob};
-ghost use Rattle.nemo_job.specs.Sinks.{job_faults, job_rows};
+ghost use Rattle.nemo_job.specs.Sinks.{job_faults, job_rows, sinks_reached};
 
 use crate::counting::count_copies;
 use crate::keeping::kept_vertices;
@@ -22,7 +25,7 @@ use thiserror::Error;
 const MAX_COPIES: u64 = 512;
 
 /// Why a job has no flat job: it has more than 512 copies, or memory ran out.
-#[derive(Clone, Copy, Debug, PartialEq, Eq, Error)]
+#[derive(Debug, Drop, Error)]
 pub enum FlattenRefused {
     #[error("{count} copies of vertices, of which there may be 512")]
     TooMany { count: u64 },
@@ -42,15 +45,18 @@ impl From<NoMemory> for FlattenRefused {
 }
 
 /// The flat job of a job: the copies of its vertices that reach a sink, a loop's turn by turn in the loop's place, named
-/// by their paths and with the transforms of the job's operations. Its sinks get what the job gives them, and the same
-/// faults reach them. More than 512 copies, also of vertices that reach no sink, are refused with their number. The
+/// by their paths and with the transforms of the job's operations. Its sinks get what the job gives them, row by row, and
+/// the same faults reach them. Its names differ and hold neither a space nor a newline. More than 512 copies, also of vertices that reach no sink, are refused with their number. The
 /// flat job of a chain is a line.
 pub fn flatten(alloc: Global, job: &Job) -> Result<FlatJob, FlattenRefused>
     ensures flat { IfOk result (λ flat. flat ≡ flattened job.now) }
     ensures few { IfOk result (λ flat. copies job.now ≤ 512) }
     ensures end { IfErr result (IsTooMany (copies job.now)) }
+    ensures reached { IfOk result (λ flat. flat_reached flat ≡ sinks_reached job.now) }
     ensures rows { IfOk result (λ flat. flat_rows flat ≡ job_rows job.now) }
     ensures faults { IfOk result (λ flat. flat_faults flat ≡ job_faults job.now) }
+    ensures differ { IfOk result (λ flat. all_new [] (vertex_names flat) ≡ true) }
+    ensures words { IfOk result (λ flat. list_all is_word (vertex_names flat) ≡ true) }
     ensures chain { is_built job.now ≡ true → IfOk result (λ flat. flat ≡ flat_of job.now) }
     ensures line { is_built job.now ≡ true → IfOk result IsLine }
     ensures chain_end { is_built job.now ≡ true → IfErr result (λ e. e ≡ FlattenRefused.NoMemory) }
@@ -70,12 +76,20 @@ pub fn flat_vertices(alloc: Global, job: &Job) -> Result<List<FlatVertex>, Flatt
     ensures end { IfErr result (IsTooMany (copies job.now)) }
     ensures chain_end { is_built job.now ≡ true → IfErr result (λ e. e ≡ FlattenRefused.NoMemory) }
 {
-    let vertices = job.vertices().as_slice();
-    let count = count_copies(vertices);
+    check_copies(job)?;
+    Ok(few_vertices(alloc, job.vertices().as_slice())?)
+}
+
+/// The refusal of a job of more than 512 copies, for those who need no flat job. It takes no memory.
+pub fn check_copies(job: &Job) -> Result<(), FlattenRefused>
+    ensures few { OnOk result (copies job.now ≤ 512) }
+    ensures end { IfErr result (λ e. (513 ≤ copies job.now) × (e ≡ FlattenRefused.TooMany (min (copies job.now) (2 ^ 64 - 1)))) }
+{
+    let count = count_copies(job.vertices().as_slice());
     if count > MAX_COPIES {
         return Err(FlattenRefused::TooMany { count });
     }
-    Ok(few_vertices(alloc, vertices)?)
+    Ok(())
 }
 
 /// Those of a job of at most 512 copies.

@@ -1,13 +1,10 @@
-ghost use Rattle.std.specs.Prelude.{◌≡◌, ◌<◌, ◌≤◌, ◌^◌, ◌==◌, ◌||◌, ℕ, Bool, All, length, map, slice_get, slice_index_or, string_bytes, Some, IfOk};
-ghost use Rattle.std.specs.List.{list_any};
+ghost use Rattle.std.specs.Prelude.{◌≡◌, ◌<◌, ◌≤◌, ◌^◌, All, length, map, slice_index_or, string_bytes, IfOk};
 ghost use Rattle.nemo_flat.specs.Flattened as spec;
-ghost use Rattle.nemo_flat.specs.Keeping.{IsMarked, IsKeepable, vertex_of};
-ghost use Rattle.nemo_job.specs.Held.{does_sink};
+ghost use Rattle.nemo_flat.specs.Keeping.{IsKeepable, vertex_of};
 ghost use Rattle.nemo_job.specs.Nodes.{copy_of};
 
 use nemo_ir::FlatVertex;
-use nemo_job::Node;
-use nemo_transform::Transform;
+use nemo_job::{Node, last_readers};
 use nemo_value::{List, NoMemory, Text};
 use std::alloc::Global;
 
@@ -16,52 +13,16 @@ pub(crate) fn kept_vertices(alloc: Global, nodes: &[Node<'_>]) -> Result<List<Fl
     requires { IsKeepable (map copy_of nodes.now) }
     ensures { IfOk result (λ all. all ≡ map (spec.flat_vertex (spec.kept (map copy_of nodes.now))) (spec.kept (map copy_of nodes.now))) }
 {
-    let kept = kept(alloc, nodes)?;
+    let last = last_readers(alloc, nodes)?;
     let mut numbers = Vec::with_capacity(alloc, nodes.len())?;
     let mut all = List::with_capacity(alloc, nodes.len())?;
     for (place, node) in nodes.iter().enumerate() {
         numbers.push(all.len() as u32)?;
-        if kept[place] {
+        if last[place].is_some() {
             all.push(vertex_of(alloc, node, numbers.as_slice())?)?;
         }
     }
     Ok(all)
-}
-
-/// Which copies are sinks, or are taken by one that is kept, from the last copy back.
-fn kept(alloc: Global, nodes: &[Node<'_>]) -> Result<Vec<bool>, NoMemory>
-    requires { IsKeepable (map copy_of nodes.now) }
-    ensures { IfOk result (λ kept. IsMarked (map copy_of nodes.now) 0 kept.items) }
-{
-    let mut kept = sinks(alloc, nodes)?;
-    for place in (0..nodes.len()).rev() {
-        if kept[place] {
-            keep(&mut kept, nodes[place].inputs.as_slice());
-        }
-    }
-    Ok(kept)
-}
-
-/// Which copies are sinks.
-fn sinks(alloc: Global, nodes: &[Node<'_>]) -> Result<Vec<bool>, NoMemory>
-    ensures { IfOk result (λ sinks. sinks.items ≡ map (λ n. does_sink (copy_of n).transform) nodes.now) }
-{
-    let mut sinks = Vec::with_capacity(alloc, nodes.len())?;
-    for node in nodes {
-        sinks.push(matches!(node.transform, Transform::Sink { .. }))?;
-    }
-    Ok(sinks)
-}
-
-/// Keeps the copies of these places.
-fn keep(kept: &mut Vec<bool>, inputs: &[usize])
-    requires { All (λ j. j < length kept.old.items) inputs.now }
-    ensures size { length kept.new.items ≡ length kept.old.items }
-    ensures marks { (i : ℕ) (b : Bool) → slice_get kept.old.items i ≡ Some b → slice_get kept.new.items i ≡ Some (list_any (λ j. j == i) inputs.now || b) }
-{
-    for input in inputs {
-        kept[*input] = true;
-    }
 }
 
 /// A copy as a vertex, where these are the numbers of the copies before it.

@@ -8,6 +8,6 @@ mod keeping;
 mod law;
 mod table;
 
-pub use copies::{FlattenRefused, flat_vertices, flatten};
+pub use copies::{FlattenRefused, check_copies, flat_vertices, flatten};
 pub use first::first_dag;
 pub use law::flat_law;

@@ -18,7 +18,7 @@ use Rattle.nemo_job.specs.ChainRows.{rows_after, rows_through}
 use Rattle.nemo_transform.specs.Brought.{arisen, port}
 use Rattle.nemo_job.specs.Mean.{ByPath, Entry, look, ports_at, run, vertex_mean, work_mean}
 use Rattle.nemo_job.specs.Paths.{paths}
-use Rattle.nemo_job.specs.Sinks.{arisen_cmp, by_name, is_sink, job_faults, job_rows, reaching, sink_rows, sinks_of}
+use Rattle.nemo_job.specs.Sinks.{arisen_cmp, in_order, is_sink, job_faults, job_rows, reaching, sink_reached, sinks_of}
 use Rattle.nemo_job.specs.declared.vertex.JobVertex.{JobVertex}
 use Rattle.nemo_job.specs.declared.vertex.Ref.{Ref}
 use Rattle.nemo_job.specs.declared.vertex.Work.{Work}
@@ -223,7 +223,7 @@ pub chain_rows : (s : JobVertex) (ms : List JobVertex) (k : JobVertex) → is_bu
     → job_rows (s ∷ (ms ++ k ∷ [])) ≡ record { name = k.name; rows = sorted record_cmp (rows_through ms (rows_after s.work [])) } ∷ []
 chain_rows s ms k h =
     let vs = s ∷ (ms ++ k ∷ []) in
-    ap (λ ks. sorted by_name (map (sink_rows vs) ks)) (one_sink s ms k h)
+    ap (λ ks. in_order (map (sink_reached vs) ks)) (one_sink s ms k h)
     ∙ ap (λ f. record { name = k.name; rows = sorted record_cmp f.rows } ∷ []) (reached s ms k h)
 
 pub chain_sound : (s : JobVertex) (ms : List JobVertex) (k : JobVertex) → is_built (s ∷ (ms ++ k ∷ [])) ≡ true → job_faults (s ∷ (ms ++ k ∷ [])) ≡ []

@@ -5,17 +5,17 @@ use Rattle.std.proofs.lemmas.Bool.{and_from, false_from_ne_true, not_from_false,
 use Rattle.std.proofs.lemmas.List.Folds.{list_any-append}
 use Rattle.std.specs.Cmp.Lexicographic.{nat_list_eq_equiv}
 use Rattle.std.specs.List.{list_any}
-use Rattle.nemo_value.specs.Order.{record_cmp}
-use Rattle.nemo_value.specs.Sorting.{sorted}
 use Rattle.nemo_value.specs.Texts.{all_new, same_text}
 use Rattle.nemo_value.specs.declared.record.SinkRows.{SinkRows}
+use Rattle.nemo_transform.specs.Gives.{Row}
 use Rattle.nemo_transform.specs.declared.transform.Transform.{Transform}
 use Rattle.nemo_transform.specs.declared.transform.Transform.TheVariants.{Sink}
 use Rattle.nemo_job.specs.ByPlace.{ByPlace, Placed, values}
+use Rattle.nemo_job.specs.Chain.{names_of}
 use Rattle.nemo_job.specs.Held.{does_sink, sink_at, sinks_given}
 use Rattle.nemo_job.specs.Mean.{ByPath, mean}
 use Rattle.nemo_job.specs.Refusals.{IsJob, has_double, has_name}
-use Rattle.nemo_job.specs.Sinks.{by_name, is_sink, job_rows, reaching, sink_rows, sinks_of}
+use Rattle.nemo_job.specs.Sinks.{in_order, is_sink, job_rows, reaching, sink_reached, sinks_of, sinks_reached}
 use Rattle.nemo_job.specs.Sites.{Face, faces, sites_after, standing, working}
 use Rattle.nemo_job.specs.Unrolled.{at_start, path_at, placed_copies, unroll_all}
 use Rattle.nemo_job.specs.declared.vertex.JobVertex.{JobVertex}
@@ -24,20 +24,20 @@ use Rattle.nemo_job.proofs.FineSites.{AllFine, fine_left, fine_right, fine_sites
 use Rattle.nemo_job.proofs.Layers.{vertex_stands}
 use Rattle.nemo_job.proofs.UnrolledMean.{entry_in}
 
-no_rows : (t : Transform) (b : ByPlace) (more : List SinkRows) → does_sink t ≡ false → option_to_list (sink_at t b) ++ more ≡ more
-no_rows (Sink name) b more h = absurd (true≢false h)
-no_rows t b more h = refl
+no_rows : (t : Transform) (rows : List Row) (more : List SinkRows) → does_sink t ≡ false → option_to_list (sink_at t rows) ++ more ≡ more
+no_rows (Sink name) rows more h = absurd (true≢false h)
+no_rows t rows more h = refl
 
 sinks_along : (all : List JobVertex) (f : ℕ → List ℕ) {vs : List JobVertex} {ps : List Placed} {bs : List ByPlace} → Aligned (reaching all) f vs ps bs
-    → map (sink_rows all) (sinks_of vs) ≡ sinks_given ps bs
+    → map (sink_reached all) (sinks_of vs) ≡ sinks_given ps bs
 sinks_along all f (none bs) = refl
-sinks_along all f (other v {vs} isnt a) = ap (λ is. map (sink_rows all) (cond is (v ∷ sinks_of vs) (sinks_of vs))) isnt ∙ sinks_along all f a
-sinks_along all f (copy p b {vs} {ps} {bs} isnt a) = sinks_along all f a ∙ sym (no_rows p.transform b (sinks_given ps bs) isnt)
+sinks_along all f (other v {vs} isnt a) = ap (λ is. map (sink_reached all) (cond is (v ∷ sinks_of vs) (sinks_of vs))) isnt ∙ sinks_along all f a
+sinks_along all f (copy p b {vs} {ps} {bs} isnt a) = sinks_along all f a ∙ sym (no_rows p.transform b.rows (sinks_given ps bs) isnt)
 sinks_along all f (sink v p b {vs} {ps} {bs} is named reach a) =
     let rows : (reaching all v).rows ≡ b.rows = ap (λ (c : ByPath). c.rows) reach in
-    ap (λ c. map (sink_rows all) (cond c (v ∷ sinks_of vs) (sinks_of vs))) is
-    ∙ (λ i. record { name = v.name; rows = sorted record_cmp (rows i) } ∷ sinks_along all f a i)
-    ∙ ap (λ t. option_to_list (sink_at t b) ++ sinks_given ps bs) (sym named)
+    ap (λ c. map (sink_reached all) (cond c (v ∷ sinks_of vs) (sinks_of vs))) is
+    ∙ (λ i. record { name = v.name; rows = rows i } ∷ sinks_along all f a i)
+    ∙ ap (λ t. option_to_list (sink_at t b.rows) ++ sinks_given ps bs) (sym named)
 
 ---- their names
 
@@ -79,16 +79,24 @@ names_new kept (v ∷ vs) before seen has fine =
         (not_from_false (list_any (same_text v.name) seen) new) more
     go false new more same = same
 
-names_given : (all ks : List JobVertex) → map (λ s. s.name) (map (sink_rows all) ks) ≡ map (λ v. v.name) ks
+all_kept : (vs : List JobVertex) → filter (λ v. true) vs ≡ vs
+all_kept [] = refl
+all_kept (v ∷ vs) = ap (λ ws. v ∷ ws) (all_kept vs)
+
+-- the names of a job's vertices differ
+pub vertex_names_new : (vs : List JobVertex) → IsJob vs → all_new [] (names_of vs) ≡ true
+vertex_names_new vs h = ap (λ ws. all_new [] (names_of ws)) (sym (all_kept vs)) ∙ names_new (λ v. true) vs [] [] (λ q was. was) (fine_sites vs h)
+
+names_given : (all ks : List JobVertex) → map (λ s. s.name) (map (sink_reached all) ks) ≡ map (λ v. v.name) ks
 names_given all [] = refl
 names_given all (v ∷ ks) = ap (λ names. v.name ∷ names) (names_given all ks)
 
 module _ (vs : List JobVertex) (h : IsJob vs) (meant : mean vs ≡ map (entry_in (path_at vs) (values (placed_copies vs))) (unroll_all vs [] at_start).names) where
-  pub sinks_copied : map (sink_rows vs) (sinks_of vs) ≡ sinks_given (placed_copies vs) (values (placed_copies vs))
+  pub sinks_copied : sinks_reached vs ≡ sinks_given (placed_copies vs) (values (placed_copies vs))
   sinks_copied = sinks_along vs (path_at vs) (aligned vs h meant)
 
-  pub rows_copied : job_rows vs ≡ sorted by_name (sinks_given (placed_copies vs) (values (placed_copies vs)))
-  rows_copied = ap (sorted by_name) sinks_copied
+  pub rows_copied : job_rows vs ≡ in_order (sinks_given (placed_copies vs) (values (placed_copies vs)))
+  rows_copied = ap in_order sinks_copied
 
   pub sinks_apart : all_new [] (map (λ s. s.name) (sinks_given (placed_copies vs) (values (placed_copies vs)))) ≡ true
   sinks_apart =

@@ -7,6 +7,8 @@ use Rattle.nemo_value.specs.Names.{is_name}
 use Rattle.nemo_job.specs.Fitting.{is_fitting}
 use Rattle.nemo_job.specs.Refusals.{IsJob, coded, first_where, found, is_bad_loop, is_double, is_forward, is_misfed, names_unknown, sinkless}
 use Rattle.nemo_job.specs.Sites.{Site, sites}
+use Rattle.nemo_job.specs.declared.refusals.Code.{Code}
+use Rattle.nemo_job.specs.declared.refusals.Code.TheVariants.{DoubleName, UnknownInput, Forward, PortCount, BadLoop, NoSink}
 use Rattle.nemo_job.specs.declared.vertex.JobVertex.{JobVertex}
 
 -- nothing is refused at a site
@@ -36,7 +38,7 @@ neither : {X : Type 0} (a b : Option X) → option_or a b ≡ None → (a ≡ No
 neither None b h = (refl, h)
 neither (Some x) b h = cc
 
-uncoded : (code : ℕ) (place : Option ℕ) → coded code place ≡ None → place ≡ None
+uncoded : (code : Code) (place : Option ℕ) → coded code place ≡ None → place ≡ None
 uncoded code None h = refl
 uncoded code (Some p) h = cc
 
@@ -75,21 +77,21 @@ module _ (vs : List JobVertex) (h : IsJob vs) where
       × (first_where is_misfed 0 (sites vs) ≡ None) × (first_where is_bad_loop 0 (sites vs) ≡ None) × (sinkless vs ≡ None)
   none_found =
       let ss = sites vs in
-      let bad = option_or (found 7 is_bad_loop ss) (coded 8 (sinkless vs)) in
-      let misfed = option_or (found 6 is_misfed ss) bad in
-      let forward = option_or (found 5 is_forward ss) misfed in
-      let unknown = option_or (found 4 names_unknown ss) forward in
-      let a = neither (found 3 is_double ss) unknown h.fine in
-      let b = neither (found 4 names_unknown ss) forward a.1 in
-      let c = neither (found 5 is_forward ss) misfed b.1 in
-      let d = neither (found 6 is_misfed ss) bad c.1 in
-      let e = neither (found 7 is_bad_loop ss) (coded 8 (sinkless vs)) d.1 in (
-        uncoded 3 (first_where is_double 0 ss) a.0,
-        uncoded 4 (first_where names_unknown 0 ss) b.0,
-        uncoded 5 (first_where is_forward 0 ss) c.0,
-        uncoded 6 (first_where is_misfed 0 ss) d.0,
-        uncoded 7 (first_where is_bad_loop 0 ss) e.0,
-        uncoded 8 (sinkless vs) e.1,
+      let bad = option_or (found BadLoop is_bad_loop ss) (coded NoSink (sinkless vs)) in
+      let misfed = option_or (found PortCount is_misfed ss) bad in
+      let forward = option_or (found Forward is_forward ss) misfed in
+      let unknown = option_or (found UnknownInput names_unknown ss) forward in
+      let a = neither (found DoubleName is_double ss) unknown h.fine in
+      let b = neither (found UnknownInput names_unknown ss) forward a.1 in
+      let c = neither (found Forward is_forward ss) misfed b.1 in
+      let d = neither (found PortCount is_misfed ss) bad c.1 in
+      let e = neither (found BadLoop is_bad_loop ss) (coded NoSink (sinkless vs)) d.1 in (
+        uncoded DoubleName (first_where is_double 0 ss) a.0,
+        uncoded UnknownInput (first_where names_unknown 0 ss) b.0,
+        uncoded Forward (first_where is_forward 0 ss) c.0,
+        uncoded PortCount (first_where is_misfed 0 ss) d.0,
+        uncoded BadLoop (first_where is_bad_loop 0 ss) e.0,
+        uncoded NoSink (sinkless vs) e.1,
       )
 
   pub fine_sites : AllFine (sites vs)

@@ -48,33 +48,13 @@ port_names : (carry : List (List ℕ)) → named (map port_face carry) ≡ carry
 port_names [] = refl
 port_names (name ∷ carry) = ap (λ names. name ∷ names) (port_names carry)
 
-vertex_names : (vs : List JobVertex) → named (faces (map standing vs)) ≡ names_of vs
-vertex_names [] = refl
-vertex_names (v ∷ vs) = λ k. vertex_face v k ∷ vertex_names vs k
-
 -- the ports of a loop, in front of its body
 pub first_ports : (find : List ℕ → Option Named) (carry : List (List ℕ)) (others : List Face) → ((q : List ℕ) → find q ≡ first_named q 0 (map port_face carry ++ others))
     → all_first find 0 carry ≡ all_new [] carry
 first_ports find carry others has =
     ap (all_first find 0) (sym (port_names carry)) ∙ firsts find [] (map port_face carry) others [] has (λ q. refl) ∙ ap (all_new []) (port_names carry)
 
--- the vertices of a job
-pub first_vertices : (find : List ℕ → Option Named) (vs : List JobVertex) → ((q : List ℕ) → find q ≡ first_named q 0 (faces (map standing vs)))
-    → all_first find 0 (names_of vs) ≡ all_new [] (names_of vs)
-first_vertices find vs has =
-    let fs : List Face = faces (map standing vs) in
-    ap (all_first find 0) (sym (vertex_names vs)) ∙ firsts find [] fs [] [] (λ q. has q ∙ ap (first_named q 0) (sym (append-nil fs))) (λ q. refl) ∙ ap (all_new []) (vertex_names vs)
-
 ---- at a place
-
-pub within : (vs : List JobVertex) (i : ℕ) → i < length vs → i < length (names_of vs)
-within vs i l = omega (arith, length-map vs (λ v. v.name))
-
-pub past : (vs : List JobVertex) (i : ℕ) → length vs ≤ i → length (names_of vs) ≤ i
-past vs i l = omega (arith, length-map vs (λ v. v.name))
-
-pub name_at : (vs : List JobVertex) (i : ℕ) (v : JobVertex) → i < length vs → v ≡ get_or vs i v → v.name ≡ get_or (names_of vs) i v.name
-name_at vs i v l is = ap (λ w. w.name) is ∙ sym (get_or-map (λ w. w.name) vs i v v.name l)
 
 -- a name that is had before its place
 pub first_found : (find : List ℕ → Option Named) (i : ℕ) (names : List (List ℕ)) (name : List ℕ) → i < length names → name ≡ get_or names i name → is_before i (find name) ≡ true

@@ -14,7 +14,7 @@ use Rattle.nemo_job.specs.Ends.{IsEndOf, by_path, fault_end}
 use Rattle.nemo_job.specs.Held.{arisen_at, faults_given, node_of, sinks_given}
 use Rattle.nemo_job.specs.Nodes.{copy_of}
 use Rattle.nemo_job.specs.Refusals.{IsJob}
-use Rattle.nemo_job.specs.Sinks.{by_name, job_faults, job_rows}
+use Rattle.nemo_job.specs.Sinks.{by_name, job_faults, job_rows, with_sorted}
 use Rattle.nemo_job.specs.Unrolled.{placed_copies, placed_copy, unrolled}
 use Rattle.nemo_job.specs.declared.copies.Node.{Node}
 use Rattle.nemo_job.specs.declared.evaluate.JobEnd.{JobEnd}
@@ -43,16 +43,16 @@ nodes_counted vs nodes made = ap length (sym made) ∙ length-map nodes copy_of
 
 -- what the sinks of a job got
 pub record IsCollected (vs : List JobVertex) (sinks : List SinkRows) (first : Option Located) : Type 0 where
-  pub sinks_are : sinks ≡ sinks_given (placed_copies vs) (values (placed_copies vs))
+  pub sinks_are : sinks ≡ map with_sorted (sinks_given (placed_copies vs) (values (placed_copies vs)))
   pub first_is : option_map arisen_at first ≡ first_fault (faults_given (placed_copies vs) (values (placed_copies vs)))
 
 -- what code has of it: the nodes of the copies, and what was collected over them
 pub collected_by : (vs : List JobVertex) (slice nodes : List Node) (sinks : List SinkRows) (first known : Option Located) → slice ≡ nodes → map copy_of nodes ≡ unrolled vs
-    → sinks ≡ sinks_given (map node_of slice) (values (map node_of slice)) → option_map arisen_at first ≡ first_fault (faults_given (map node_of slice) (values (map node_of slice))) → first ≡ known → IsCollected vs sinks known
+    → sinks ≡ map with_sorted (sinks_given (map node_of slice) (values (map node_of slice))) → option_map arisen_at first ≡ first_fault (faults_given (map node_of slice) (values (map node_of slice))) → first ≡ known → IsCollected vs sinks known
 collected_by vs slice nodes sinks first known same made s f is =
     let ps : map node_of slice ≡ placed_copies vs = ap (map node_of) same ∙ nodes_placed vs nodes made in
     record {
-      sinks_are = s ∙ ap (λ l. sinks_given l (values l)) ps;
+      sinks_are = s ∙ ap (λ l. map with_sorted (sinks_given l (values l))) ps;
       first_is = sym (ap (option_map arisen_at) is) ∙ f ∙ ap (λ l. first_fault (faults_given l (values l))) ps;
     }
 
@@ -64,6 +64,10 @@ below_in n a (b ∷ faults) h (inr m) = below_in n a faults h.1 m
 first_in : {X : Type 0} (x : X) (xs : List X) → slice_get xs 0 ≡ Some x → In x xs
 first_in x [] e = cc
 first_in x (y ∷ xs) e = inl (cc)
+
+same_names : (sinks : List SinkRows) → map (λ s. s.name) (map with_sorted sinks) ≡ map (λ s. s.name) sinks
+same_names [] = refl
+same_names (s ∷ sinks) = ap (λ names. s.name ∷ names) (same_names sinks)
 
 module _ (vs : List JobVertex) (h : IsJob vs) where
   -- the first fault is at a copy
@@ -78,7 +82,8 @@ module _ (vs : List JobVertex) (h : IsJob vs) where
       subst (IsEndOf vs) (sym is) (first_copied vs h (mean_unrolled vs) (place_of_copy vs h) ∙ ap (option_map (by_path vs)) (sym got.first_is))
 
   pub names_apart : (sinks : List SinkRows) (first : Option Located) → IsCollected vs sinks first → all_new [] (map (λ s. s.name) sinks) ≡ true
-  names_apart sinks first got = ap (λ l. all_new [] (map (λ s. s.name) l)) got.sinks_are ∙ sinks_apart vs h (mean_unrolled vs)
+  names_apart sinks first got =
+      ap (λ l. all_new [] (map (λ s. s.name) l)) got.sinks_are ∙ ap (all_new []) (same_names (sinks_given (placed_copies vs) (values (placed_copies vs)))) ∙ sinks_apart vs h (mean_unrolled vs)
 
   pub rows_are : (sinks rows : List SinkRows) (first : Option Located) → IsCollected vs sinks first → rows ≡ sorted by_name sinks → rows ≡ job_rows vs
   rows_are sinks rows first got is = is ∙ ap (sorted by_name) got.sinks_are ∙ sym (rows_copied vs h (mean_unrolled vs))

@@ -5,7 +5,7 @@ use Rattle.std.proofs.lemmas.Bool.Decides.{eqb_tells}
 use Rattle.std.proofs.lemmas.List.{length-map, length-set, set-get_or, take_more}
 use Rattle.std.proofs.lemmas.Option.{slice_get_within, slice_get-map, slice_get_read}
 use Rattle.nemo_job.specs.ByPlace.{Placed}
-use Rattle.nemo_job.specs.Held.{IsLower, does_sink, node_of}
+use Rattle.nemo_job.specs.Held.{IsLower, IsTaken, does_sink, node_of}
 use Rattle.nemo_job.specs.Readers.{IsMarked, end_of}
 use Rattle.nemo_job.specs.declared.copies.Node.{Node}
 
@@ -93,6 +93,11 @@ marks_more xs ys place a b c m n = record {
 read : {X : Type 0} (xs : List X) (i : ℕ) (x y : X) → i < length xs → x ≡ get_or xs i x → x ≡ y → slice_get xs i ≡ Some y
 read xs i x y l is same = slice_get_read xs (length xs) i x refl l is ∙ ap Some same
 
+-- one that has a number
+pub is_marked : (xs : List (Option ℕ)) (i : ℕ) (o : Option ℕ) → i < length xs → o ≡ get_or xs i o → is_some o ≡ true → (v : ℕ) × (slice_get xs i ≡ Some (Some v))
+is_marked xs i None l is h = absurd (cc h)
+is_marked xs i (Some v) l is h = (v, read xs i (Some v) (Some v) l is refl)
+
 pub is_free : (xs : List (Option ℕ)) (i : ℕ) (o : Option ℕ) → i < length xs → o ≡ get_or xs i o → is_some o ≡ false → slice_get xs i ≡ Some None
 is_free xs i o l is h = read xs i o None l is (no_some o h)
 
@@ -121,6 +126,7 @@ pub record IsLastFrom (ps : List Placed) (place : ℕ) (last : List (Option ℕ)
   pub sinks : (i : ℕ) (p : Placed) → slice_get ps i ≡ Some p → does_sink p.transform ≡ true → slice_get last i ≡ Some (Some (length ps))
   pub inputs : (i : ℕ) (p : Placed) (k j u : ℕ) → place ≤ i → slice_get ps i ≡ Some p → slice_get p.inputs k ≡ Some j → slice_get last i ≡ Some (Some u)
       → (w : ℕ) × (slice_get last j ≡ Some (Some w)) × (i ≤ w)
+  pub only : (i u : ℕ) (p : Placed) → slice_get ps i ≡ Some p → slice_get last i ≡ Some (Some u) → (does_sink p.transform ≡ true) ⊎ IsTaken ps last i u
   pub late : (j u : ℕ) → slice_get last j ≡ Some (Some u) → place ≤ u
 
 end_late : (count : ℕ) (p : Placed) (u : ℕ) (b : Bool) → cond b (Some count) None ≡ Some u → count ≡ u
@@ -132,6 +138,10 @@ ends_late count [] j u e = absurd (cc e)
 ends_late count (p ∷ ps) zero u e = end_late count p u (does_sink p.transform) (cc e)
 ends_late count (p ∷ ps) (suc j) u e = ends_late count ps j u e
 
+end_sinks : (count u : ℕ) (b : Bool) → cond b (Some count) None ≡ Some u → b ≡ true
+end_sinks count u true e = refl
+end_sinks count u false e = absurd (cc e)
+
 twice : (count : ℕ) (nodes : List Node) → map (λ n. end_of count (node_of n)) nodes ≡ map (end_of count) (map node_of nodes)
 twice count [] = refl
 twice count (n ∷ nodes) = ap (λ l. end_of count (node_of n) ∷ l) (twice count nodes)
@@ -142,9 +152,14 @@ begins nodes last e = subst (IsLastFrom ps (length nodes)) (sym (e ∙ twice (le
   size = length-map ps (end_of (length nodes));
   sinks = λ i p at sink. slice_get-map (end_of (length nodes)) ps i ∙ ap (option_map (end_of (length nodes))) at ∙ ap (λ b. Some (cond b (Some (length nodes)) None)) sink ∙ ap (λ n. Some (Some n)) (sym count);
   inputs = λ i p k j u l at input mark. let inside : i < length ps = slice_get_within ps i p at in absurd (omega (arith, count));
+  only = λ i u p at mark. inl (end_sinks (length nodes) u (does_sink p.transform)
+      (some_of (sym (slice_get-map (end_of (length nodes)) ps i ∙ ap (option_map (end_of (length nodes))) at) ∙ mark)));
   late = λ j u mark. let same : length nodes ≡ u = ends_late (length nodes) ps j u mark in omega arith;
 })
   where
+    some_of : {X : Type 0} {x y : X} → Some x ≡ Some y → x ≡ y
+    some_of e = cc e
+
     ps : List Placed
     ps = map node_of nodes
 
@@ -153,14 +168,23 @@ begins nodes last e = subst (IsLastFrom ps (length nodes)) (sym (e ∙ twice (le
 
 -- a vertex that reaches a sink
 pub turns : (ps : List Placed) (place at : ℕ) (p : Placed) (old new : List (Option ℕ)) → IsLower ps → 0 < place → at ≡ place - 1 → slice_get ps at ≡ Some p
-    → IsLastFrom ps place old → IsMarked p.inputs at old new → IsLastFrom ps at new
-turns ps place at p old new lower pos is here l m = record {
+    → (v : ℕ) → slice_get old at ≡ Some (Some v) → IsLastFrom ps place old → IsMarked p.inputs at old new → IsLastFrom ps at new
+turns ps place at p old new lower pos is here v marked l m = record {
   size = m.size ∙ l.size;
   sinks = λ i q e sink. m.stays i (length ps) (l.sinks i q e sink);
   inputs = λ i q k j u le e input mark. taken i q k j u le e input mark (eqb_tells i at);
+  only = λ i u q e mark. by i u q e (m.added i u mark);
   late = λ j u mark. after j u (m.added j u mark);
 }
   where
+    still : (i u : ℕ) (q : Placed) → (does_sink q.transform ≡ true) ⊎ IsTaken ps old i u → (does_sink q.transform ≡ true) ⊎ IsTaken ps new i u
+    still i u q (inl sink) = inl sink
+    still i u q (inr t) = inr (t.0, t.1, t.2, t.3, t.4, m.stays u t.2 t.5)
+
+    by : (i u : ℕ) (q : Placed) → slice_get ps i ≡ Some q → (slice_get old i ≡ Some (Some u)) ⊎ ((k : ℕ) × (slice_get p.inputs k ≡ Some i) × (u ≡ at)) → (does_sink q.transform ≡ true) ⊎ IsTaken ps new i u
+    by i u q e (inl mark) = still i u q (l.only i u q e mark)
+    by i u q e (inr t) = inr (p, t.0, v, ap (slice_get ps) t.2 ∙ here, t.1, ap (slice_get new) t.2 ∙ m.stays at v marked)
+
     after : (j u : ℕ) → (slice_get old j ≡ Some (Some u)) ⊎ ((k : ℕ) × (slice_get p.inputs k ≡ Some j) × (u ≡ at)) → at ≤ u
     after j u (inl e) = let le : place ≤ u = l.late j u e in omega arith
     after j u (inr e) = let same : u ≡ at = e.2 in omega arith
@@ -194,6 +218,7 @@ passes_by ps place at last pos is free l = record {
   size = l.size;
   sinks = l.sinks;
   inputs = λ i q k j u le e input mark. here i q k j u le e input mark (eqb_tells i at);
+  only = l.only;
   late = λ j u mark. let le : place ≤ u = l.late j u mark in omega arith;
 }
   where

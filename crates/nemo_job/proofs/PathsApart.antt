@@ -184,7 +184,7 @@ vertex_apart v work path before from depth fine =
     let f = fine_vertex v before from depth fine in
     subst Apart (sym (vertex_path v path)) (work (path ++ v.name) depth (good_vertex v before from depth f.0) f.1)
 
-paths_apart : (vs : List JobVertex) → IsJob vs → Apart (paths vs)
+pub paths_apart : (vs : List JobVertex) → IsJob vs → Apart (paths vs)
 paths_apart vs h = all_apart vs (each_one WorkApart VertexApart op_apart loop_apart vertex_apart vs) [] [] 0 (fine_sites vs h)
 
 pub paths_differ : (vs : List JobVertex) → IsJob vs → all_new [] (paths vs) ≡ true

@@ -51,11 +51,10 @@ bound-zip (p ∷ ports) [] = refl
 bound-zip (p ∷ ports) (name ∷ carry) = ap (λ bs. record { name = name; ports = p ∷ [] } ∷ bs) (bound-zip ports carry)
 
 -- one port more
-pub bound-more : (ports : Ports) (carry : List (List ℕ)) (i : ℕ) (e : Option ℕ × List ℕ) (own : Ports) (name : List ℕ) → (i < length (zip ports carry)) × (e ≡ get_or (zip ports carry) i e) → own ≡ e.0 ∷ [] → name ≡ e.1
-    → map one_bound (take i (zip ports carry)) ++ record { name = name; ports = own } ∷ [] ≡ map one_bound (take (i + 1) (zip ports carry))
-bound-more ports carry i e own name at one is =
-    (λ z. map one_bound (take i (zip ports carry)) ++ record { name = is z; ports = one z } ∷ []) ∙ ap (λ d. map one_bound (take i (zip ports carry)) ++ one_bound d ∷ []) at.1
-    ∙ sym (map_more one_bound (zip ports carry) i e at.0)
+pub bound-more : (ports : Ports) (carry : List (List ℕ)) (i : ℕ) (e : Option ℕ × List ℕ) → (i < length (zip ports carry)) × (e ≡ get_or (zip ports carry) i e)
+    → map one_bound (take i (zip ports carry)) ++ one_bound e ∷ [] ≡ map one_bound (take (i + 1) (zip ports carry))
+bound-more ports carry i e at =
+    ap (λ d. map one_bound (take i (zip ports carry)) ++ one_bound d ∷ []) at.1 ∙ sym (map_more one_bound (zip ports carry) i e at.0)
 
 pub flatten_at : (ports : Ports) (i : ℕ) → option_flatten (slice_get ports i) ≡ slice_index_or ports i None
 flatten_at ports i = one (slice_get ports i) ∙ unwrap_or-slice_get ports i None

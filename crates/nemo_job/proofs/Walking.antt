@@ -16,6 +16,7 @@ use Rattle.nemo_job.specs.Walks.{HasFaces, IsFirst, Walked, WalkedAt, at_place, 
 use Rattle.nemo_job.specs.declared.refusals.Found.{Found}
 use Rattle.nemo_job.specs.declared.scope.Named.{Named}
 use Rattle.nemo_job.specs.declared.site.Fails.{Fails}
+use Rattle.nemo_job.specs.declared.refusals.Code.{Code}
 use Rattle.nemo_job.specs.declared.vertex.JobVertex.{JobVertex}
 use Rattle.nemo_job.specs.declared.vertex.Ref.{Ref}
 use Rattle.nemo_job.specs.declared.vertex.Work.{Work}
@@ -183,7 +184,7 @@ loop_walked scope work turns carry body next depth around o inner f start end is
 
 ---- the first of each code
 
-coded_is : (code : ℕ) (o : Option ℕ) → at_place code (option_map (λ p. min p (2 ^ 64 - 1)) o) ≡ coded code o
+coded_is : (code : Code) (o : Option ℕ) → at_place code (option_map (λ p. min p (2 ^ 64 - 1)) o) ≡ coded code o
 coded_is code None = refl
 coded_is code (Some p) = refl
 

@@ -29,9 +29,12 @@ values_from done (p ∷ ps) = values_from (done ++ value_after done p ∷ []) ps
 abbrev pub values : List Placed → List ByPlace
 values ps = values_from [] ps
 
--- by the place where it arose, and then by kind and record
+-- by the place of the vertex where it arose, and then by kind and record
+abbrev pub arisen_by : {X : Type 0} → (X → ℕ) → Arisen X → Arisen X → Ordering
+arisen_by place a b = ordering_then (nat_cmp (place a.vertex) (place b.vertex)) (ordering_then (kind_cmp a.kind b.kind) (record_cmp a.rec b.rec))
+
 abbrev pub place_cmp : Arisen ℕ → Arisen ℕ → Ordering
-place_cmp a b = ordering_then (nat_cmp a.vertex b.vertex) (ordering_then (kind_cmp a.kind b.kind) (record_cmp a.rec b.rec))
+place_cmp = arisen_by (λ place. place)
 
 -- the first of some faults
 abbrev pub first_fault : List (Arisen ℕ) → Option (Arisen ℕ)

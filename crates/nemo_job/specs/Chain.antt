@@ -52,10 +52,14 @@ abbrev pub has_none : {X : Type 0} → List X → Bool
 has_none [] = true
 has_none (x ∷ xs) = false
 
--- 2 to 512 vertices: a source without inputs, maps and a sink, of different names
+-- 2 to 512 vertices: a source without inputs, maps and a sink
+abbrev pub is_linked : List JobVertex → Bool
+is_linked [] = false
+is_linked (v ∷ vs) = nat_le (length vs) 511 && is_source v.work && has_none v.inputs && links v.name vs
+
+-- of different names
 abbrev pub is_chain : List JobVertex → Bool
-is_chain [] = false
-is_chain (v ∷ vs) = nat_le (length vs) 511 && is_source v.work && has_none v.inputs && links v.name vs && all_new [] (names_of (v ∷ vs))
+is_chain vs = is_linked vs && all_new [] (names_of vs)
 
 -- each row of a source has a field
 abbrev pub rows_filled : Work → Bool

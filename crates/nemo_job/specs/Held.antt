@@ -1,5 +1,5 @@
 -- What an evaluation holds of what its vertices gave.
-use Rattle.std.specs.Prelude.{◌≡◌, ◌≤◌, ◌<◌, ℕ, List, [], ◌∷◌, ◌++◌, length, map, slice_get, Option, Some, None, option_map, option_to_list, Bool, true, false, if◌then◌else◌}
+use Rattle.std.specs.Prelude.{◌≡◌, ◌≤◌, ◌<◌, ◌⊎◌, ℕ, List, [], ◌∷◌, ◌++◌, length, map, slice_get, Option, Some, None, option_map, option_to_list, Bool, true, false, if◌then◌else◌}
 use Rattle.std.specs.Cow.{cow_slice_items}
 use Rattle.std.specs.Ordering.{is_lt}
 use Rattle.std.specs.declared.cmp.Ordering.{Ordering}
@@ -10,9 +10,8 @@ use Rattle.nemo_transform.specs.Soundness.{is_sound}
 use Rattle.nemo_transform.specs.declared.transform.Transform.{Transform}
 use Rattle.nemo_transform.specs.declared.transform.Transform.TheVariants.{Sink}
 use Rattle.nemo_job.specs.ByPlace.{ByPlace, Placed, first_fault}
-use Rattle.nemo_value.specs.Order.{record_cmp}
-use Rattle.nemo_value.specs.Sorting.{sorted}
 use Rattle.nemo_value.specs.declared.record.SinkRows.{SinkRows}
+pub use Rattle.nemo_job.specs.Sinks.{does_sink}
 use Rattle.nemo_job.specs.declared.held.Held.{Held}
 use Rattle.nemo_job.specs.declared.held.Located.{Located}
 use Rattle.nemo_job.specs.declared.copies.Node.{Node}
@@ -53,10 +52,6 @@ answers_on vals inputs t = answers t (port (map (port vals) inputs) 0).rows (por
 abbrev pub value_at : List ByPlace → ℕ → Placed → ByPlace
 value_at vals place p = at place p.transform (map (port vals) p.inputs)
 
-abbrev pub does_sink : Transform → Bool
-does_sink (Sink name) = true
-does_sink _ = false
-
 -- the vertex of a place takes none but vertices before it
 abbrev pub IsLower : List Placed → Type 0
 IsLower ps = (i : ℕ) (p : Placed) (k j : ℕ) → slice_get ps i ≡ Some p → slice_get p.inputs k ≡ Some j → j < i
@@ -67,12 +62,17 @@ pub record IsPlaced (ps : List Placed) : Type 0 where
   pub ports : (i : ℕ) (p : Placed) → slice_get ps i ≡ Some p → length p.inputs ≡ length (kinds_of p.transform)
   pub sound : (i : ℕ) (p : Placed) → slice_get ps i ≡ Some p → is_sound p.transform ≡ true
 
--- For each vertex that reaches a sink the last vertex that takes what it gives, and for a sink the number of all
--- vertices: what reaches a sink takes only what reaches a sink, and is not after the last that takes it.
+-- a vertex takes what the one of place i gives, and reaches a sink: that of place u
+abbrev pub IsTaken : List Placed → List (Option ℕ) → ℕ → ℕ → Type 0
+IsTaken ps last i u = (p : Placed) × (k : ℕ) × (v : ℕ) × (slice_get ps u ≡ Some p) × (slice_get p.inputs k ≡ Some i) × (slice_get last u ≡ Some (Some v))
+
+-- For each vertex that reaches a sink, and for no other, the last vertex that takes what it gives, and for a sink the
+-- number of all vertices: what reaches a sink takes only what reaches a sink, and is not after the last that takes it.
 pub record IsLast (ps : List Placed) (last : List (Option ℕ)) : Type 0 where
   pub size : length last ≡ length ps
   pub sinks : (i : ℕ) (p : Placed) → slice_get ps i ≡ Some p → does_sink p.transform ≡ true → slice_get last i ≡ Some (Some (length ps))
   pub inputs : (i : ℕ) (p : Placed) (k j u : ℕ) → slice_get ps i ≡ Some p → slice_get p.inputs k ≡ Some j → slice_get last i ≡ Some (Some u) → (w : ℕ) × (slice_get last j ≡ Some (Some w)) × (i ≤ w)
+  pub only : (i u : ℕ) (p : Placed) → slice_get ps i ≡ Some p → slice_get last i ≡ Some (Some u) → (does_sink p.transform ≡ true) ⊎ IsTaken ps last i u
 
 -- Before the vertex of a place, what each vertex that reaches a sink gave is held: its first fault, and its rows as
 -- long as they are taken.
@@ -98,15 +98,16 @@ pub record IsGiven (ps : List Placed) (vals : List ByPlace) (held : List Known) 
   pub size : length held ≡ length ps
   pub sinks : (k : ℕ) (p : Placed) → slice_get ps k ≡ Some p → does_sink p.transform ≡ true → slice_get held k ≡ Some (known_value (port vals k))
 
-abbrev pub sink_at : Transform → ByPlace → Option SinkRows
-sink_at (Sink name) f = Some (record { name = name; rows = sorted record_cmp f.rows })
-sink_at _ f = None
+-- a sink with its rows
+abbrev pub sink_at : Transform → List Row → Option SinkRows
+sink_at (Sink name) rows = Some (record { name = name; rows = rows })
+sink_at _ rows = None
 
--- the sinks with their rows in order, in list order
+-- the sinks, in list order, with their rows as they reach them
 abbrev pub sinks_given : List Placed → List ByPlace → List SinkRows
 sinks_given [] fs = []
 sinks_given (p ∷ ps) [] = []
-sinks_given (p ∷ ps) (f ∷ fs) = option_to_list (sink_at p.transform f) ++ sinks_given ps fs
+sinks_given (p ∷ ps) (f ∷ fs) = option_to_list (sink_at p.transform f.rows) ++ sinks_given ps fs
 
 -- the faults that reach them
 abbrev pub faults_given : List Placed → List ByPlace → List (Arisen ℕ)

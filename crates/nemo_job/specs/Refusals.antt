@@ -9,10 +9,12 @@ use Rattle.nemo_transform.specs.Soundness.{is_few}
 use Rattle.nemo_transform.specs.declared.transform.Transform.{Transform}
 use Rattle.nemo_transform.specs.declared.transform.Transform.TheVariants.{Source, Union, Sink}
 use Rattle.nemo_job.specs.Fitting.{are_fitting}
-use Rattle.nemo_job.specs.Sinks.{is_sink}
+use Rattle.nemo_job.specs.Sinks.{does_sink, is_sink}
 use Rattle.nemo_job.specs.Sites.{Doing, Does, Loops, Face, Site, port_face, sites}
 use Rattle.nemo_job.specs.declared.job.JobRefused.{JobRefused}
 use Rattle.nemo_job.specs.declared.job.JobRefused.TheVariants as job
+use Rattle.nemo_job.specs.declared.refusals.Code.{Code}
+use Rattle.nemo_job.specs.declared.refusals.Code.TheVariants.{DoubleName, UnknownInput, Forward, PortCount, BadLoop, NoSink}
 use Rattle.nemo_job.specs.declared.vertex.JobVertex.{JobVertex}
 use Rattle.nemo_job.specs.declared.vertex.Ref.{Ref}
 
@@ -24,7 +26,7 @@ first_where P i (x ∷ xs) = if P x then Some i else first_where P (i + 1) xs
 abbrev pub has_name : List ℕ → Face → Bool
 has_name name f = same_text f.name name
 
----- code 3: what stands before has the name, or two ports have one name
+---- a double name: what stands before has the name, or two ports have one name
 
 abbrev pub has_double : Doing → Bool
 has_double (Does t) = false
@@ -33,11 +35,11 @@ has_double (Loops turns carry body next) = not (all_new [] carry)
 abbrev pub is_double : Site → Bool
 is_double s = list_any (has_name s.name) s.before || has_double s.doing
 
----- code 4: an input, or what `next` names, names nothing, or a sink, or a port that isn't there
+---- an unknown input: an input, or what `next` names, names nothing, or a sink, or a port that isn't there
 
 abbrev pub gives_none : Option Transform → Bool
-gives_none (Some (Sink name)) = true
-gives_none _ = false
+gives_none (Some t) = does_sink t
+gives_none None = false
 
 -- the first of a name
 abbrev pub face_named : List ℕ → List Face → Option Face
@@ -58,7 +60,7 @@ is_next_known (Loops turns carry body next) = list_all (is_known (map port_face 
 abbrev pub names_unknown : Site → Bool
 names_unknown s = not (list_all (is_known (s.before ++ s.from)) s.inputs && is_next_known s.doing)
 
----- code 5: an input names the vertex itself or a later one
+---- a forward input: it names the vertex itself or a later one
 
 abbrev pub is_later : Site → Ref → Bool
 is_later s r = not (list_any (has_name r.name) s.before) && list_any (has_name r.name) s.from
@@ -66,7 +68,7 @@ is_later s r = not (list_any (has_name r.name) s.before) && list_any (has_name r
 abbrev pub is_forward : Site → Bool
 is_forward s = list_any (is_later s) s.inputs
 
----- code 6: the number of inputs isn't that of the ports, which is 1 to 16 for a union
+---- a port count: the number of inputs isn't that of the ports, which is 1 to 16 for a union
 
 abbrev pub has_ports : ℕ → Doing → Bool
 has_ports inputs (Does (Union ports)) = is_few inputs
@@ -76,7 +78,7 @@ has_ports inputs (Loops turns carry body next) = inputs == length carry
 abbrev pub is_misfed : Site → Bool
 is_misfed s = not (has_ports (length s.inputs) s.doing)
 
----- code 7: not 1 to 64 turns, not 1 to 16 ports, `next` of another length, more than two loops around it, or a source
+---- a bad loop: not 1 to 64 turns, not 1 to 16 ports, `next` of another length, more than two loops around it, or a source
 ---- or sink in the body
 
 abbrev pub is_end : Option Transform → Bool
@@ -92,34 +94,42 @@ is_good depth (Loops turns carry body next) =
 abbrev pub is_bad_loop : Site → Bool
 is_bad_loop s = not (is_good s.depth s.doing)
 
----- code 8: there is no sink
+---- no sink: there is no sink
 
 abbrev pub sinkless : List JobVertex → Option ℕ
 sinkless vs = if list_any (λ v. is_sink v.work) vs then None else Some 0
 
 ---- the first refusal
 
--- a code, and a place
+abbrev pub number : Code → ℕ
+number DoubleName = 3
+number UnknownInput = 4
+number Forward = 5
+number PortCount = 6
+number BadLoop = 7
+number NoSink = 8
+
+-- the number of a code, and a place
 pub record Refusal : Type 0 where
   pub code : ℕ
   pub place : ℕ
 
 -- a place beyond 2^64-1 is given as 2^64-1
-abbrev pub coded : ℕ → Option ℕ → Option Refusal
-coded code place = option_map (λ p. record { code = code; place = min p (2 ^ 64 - 1) }) place
+abbrev pub coded : Code → Option ℕ → Option Refusal
+coded code place = option_map (λ p. record { code = number code; place = min p (2 ^ 64 - 1) }) place
 
-abbrev pub found : ℕ → (Site → Bool) → List Site → Option Refusal
+abbrev pub found : Code → (Site → Bool) → List Site → Option Refusal
 found code P ss = coded code (first_where P 0 ss)
 
 -- the first code that fails, with its least place
 abbrev pub refusal_of : List JobVertex → Option Refusal
 refusal_of vs =
-    option_or (found 3 is_double (sites vs))
-    (option_or (found 4 names_unknown (sites vs))
-    (option_or (found 5 is_forward (sites vs))
-    (option_or (found 6 is_misfed (sites vs))
-    (option_or (found 7 is_bad_loop (sites vs))
-    (coded 8 (sinkless vs))))))
+    option_or (found DoubleName is_double (sites vs))
+    (option_or (found UnknownInput names_unknown (sites vs))
+    (option_or (found Forward is_forward (sites vs))
+    (option_or (found PortCount is_misfed (sites vs))
+    (option_or (found BadLoop is_bad_loop (sites vs))
+    (coded NoSink (sinkless vs))))))
 
 -- what a job keeps
 pub record IsJob (vs : List JobVertex) : Type 0 where

@@ -1,24 +1,28 @@
 -- What a job gives to its sinks.
 use Rattle.std.specs.Prelude.{ℕ, List, map, position, unwrap_or, Bool, true, false, filter}
 use Rattle.std.specs.List.{flat_map}
-use Rattle.std.specs.Ordering.{nat_cmp, ordering_then}
 use Rattle.std.specs.declared.cmp.Ordering.{Ordering}
 use Rattle.nemo_value.specs.Ascending.{ascending}
-use Rattle.nemo_value.specs.KindOrder.{kind_cmp}
 use Rattle.nemo_value.specs.Order.{record_cmp, text_cmp}
 use Rattle.nemo_value.specs.Sorting.{sorted}
 use Rattle.nemo_value.specs.declared.record.SinkRows.{SinkRows}
+use Rattle.nemo_transform.specs.declared.transform.Transform.{Transform}
 use Rattle.nemo_transform.specs.declared.transform.Transform.TheVariants.{Sink}
 use Rattle.nemo_transform.specs.Brought.{Arisen}
 use Rattle.nemo_value.specs.Texts.{same_text}
+use Rattle.nemo_job.specs.ByPlace.{arisen_by}
 use Rattle.nemo_job.specs.Mean.{ByPath, mean, look}
 use Rattle.nemo_job.specs.Paths.{paths}
 use Rattle.nemo_job.specs.declared.vertex.JobVertex.{JobVertex}
 use Rattle.nemo_job.specs.declared.vertex.Work.{Work}
 use Rattle.nemo_job.specs.declared.vertex.Work.TheVariants.{Op}
 
+abbrev pub does_sink : Transform → Bool
+does_sink (Sink name) = true
+does_sink _ = false
+
 abbrev pub is_sink : Work → Bool
-is_sink (Op (Sink name)) = true
+is_sink (Op t) = does_sink t
 is_sink _ = false
 
 -- the sinks of a job, in list order
@@ -29,15 +33,27 @@ sinks_of vs = filter (λ v. is_sink v.work) vs
 abbrev pub reaching : List JobVertex → JobVertex → ByPath
 reaching vs v = look (mean vs) (record { name = v.name; port = 0 })
 
-abbrev pub sink_rows : List JobVertex → JobVertex → SinkRows
-sink_rows vs v = record { name = v.name; rows = sorted record_cmp (reaching vs v).rows }
+-- a sink with its rows as they reach it
+abbrev pub sink_reached : List JobVertex → JobVertex → SinkRows
+sink_reached vs v = record { name = v.name; rows = (reaching vs v).rows }
+
+-- each sink, in list order, with its rows as they reach it
+abbrev pub sinks_reached : List JobVertex → List SinkRows
+sinks_reached vs = map (sink_reached vs) (sinks_of vs)
+
+-- a sink with its rows in order
+abbrev pub with_sorted : SinkRows → SinkRows
+with_sorted s = record { name = s.name; rows = sorted record_cmp s.rows }
 
 abbrev pub by_name : SinkRows → SinkRows → Ordering
 by_name a b = text_cmp a.name b.name
 
--- each sink with its rows in order, the sinks by name
+-- the sinks by name, each with its rows in order
+abbrev pub in_order : List SinkRows → List SinkRows
+in_order sinks = sorted by_name (map with_sorted sinks)
+
 abbrev pub job_rows : List JobVertex → List SinkRows
-job_rows vs = sorted by_name (map (sink_rows vs) (sinks_of vs))
+job_rows vs = in_order (sinks_reached vs)
 
 -- the place of a copy in the order of evaluation
 abbrev pub place_of : List (List ℕ) → List ℕ → ℕ
@@ -45,7 +61,7 @@ place_of all path = unwrap_or (position (same_text path) all) 0
 
 -- by the copy where it arose, and then by kind and record
 abbrev pub arisen_cmp : List (List ℕ) → Arisen (List ℕ) → Arisen (List ℕ) → Ordering
-arisen_cmp all a b = ordering_then (nat_cmp (place_of all a.vertex) (place_of all b.vertex)) (ordering_then (kind_cmp a.kind b.kind) (record_cmp a.rec b.rec))
+arisen_cmp all = arisen_by (place_of all)
 
 -- the faults that reach a sink, in this order, each once
 abbrev pub job_faults : List JobVertex → List (Arisen (List ℕ))

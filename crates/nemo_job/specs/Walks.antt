@@ -7,8 +7,9 @@ use Rattle.indexmap.specs.IndexMap.{IndexMap}
 use Rattle.nemo_value.specs.Names.{is_name}
 use Rattle.nemo_value.specs.Texts.{same_text, all_new}
 use Rattle.nemo_job.specs.ByName.{named_in}
-use Rattle.nemo_job.specs.Refusals.{Refusal, found, gives_none, is_bad_loop, is_double, is_forward, is_good, is_misfed, is_next_known, has_ports, names_unknown}
+use Rattle.nemo_job.specs.Refusals.{Refusal, number, found, gives_none, is_bad_loop, is_double, is_forward, is_good, is_misfed, is_next_known, has_ports, names_unknown}
 use Rattle.nemo_job.specs.Sites.{Doing, Does, Loops, Face, Site, faces, port_face, standing, working}
+use Rattle.nemo_job.specs.declared.refusals.Code.{Code}
 use Rattle.nemo_job.specs.declared.refusals.Found.{Found}
 use Rattle.nemo_job.specs.declared.scope.Named.{Named}
 use Rattle.nemo_job.specs.declared.site.Fails.{Fails}
@@ -110,9 +111,9 @@ abbrev pub nothing : Found
 nothing = record { count = 0; double = None; unknown = None; forward = None; misfed = None; bad_loop = None }
 
 -- a code at a place that was noted
-abbrev pub at_place : ℕ → Option ℕ → Option Refusal
-at_place code place = option_map (λ p. record { code = code; place = p }) place
+abbrev pub at_place : Code → Option ℕ → Option Refusal
+at_place code place = option_map (λ p. record { code = number code; place = p }) place
 
 -- a place that was noted is that of the first refusal of a code
 abbrev pub IsFirst : (Site → Bool) → List Site → Option ℕ → Type 0
-IsFirst P ss place = (code : ℕ) → at_place code place ≡ found code P ss
+IsFirst P ss place = (code : Code) → at_place code place ≡ found code P ss

@@ -1,36 +1,35 @@
-ghost use Rattle.std.specs.Prelude.{◌≡◌, [], IfOk};
+ghost use Rattle.std.specs.Prelude.{◌≡◌};
 ghost use Rattle.std.specs.List.{list_all};
-ghost use Rattle.nemo_value.specs.Texts.{all_new};
 ghost use Rattle.nemo_job.specs.Chain as spec;
-ghost use Rattle.nemo_job.specs.Walks.{HasFaces, seen};
 
-use crate::scope::{Scope, is_taken, scope_of};
+use crate::job::Job;
 use crate::vertex::{JobVertex, Ref, Work};
 use nemo_transform::Transform;
-use nemo_value::{Expr, Name, NoMemory};
-use std::alloc::Global;
+use nemo_value::{Expr, Name};
 
 /// The most vertices of a chain.
 const MAX_VERTICES: usize = 512;
 
-/// Whether the vertices are a chain: 2 to 512 vertices of different names, a source without inputs, then maps of
-/// first fields and constants, and then a sink of its vertex's name, each fed by the one before it.
-pub fn is_chain(alloc: Global, vertices: &[JobVertex]) -> Result<bool, NoMemory>
-    ensures { IfOk result (λ is. is ≡ spec.is_chain vertices.now) }
+/// Whether the job is a chain: 2 to 512 vertices, a source without inputs, then maps of first fields and constants, and
+/// then a sink of its vertex's name, each fed by the one before it.
+pub fn is_chain(job: &Job) -> bool
+    ensures { result ≡ spec.is_chain job.now }
+{
+    is_linked(job.vertices().as_slice())
+}
+
+/// The same of vertices, whose names may be equal.
+fn is_linked(vertices: &[JobVertex]) -> bool
+    ensures { result ≡ spec.is_linked vertices.now }
 {
     match vertices.split_first() {
         Some((first, others)) => {
-            if others.len() < MAX_VERTICES
+            others.len() < MAX_VERTICES
                 && is_source(&first.work)
                 && first.inputs.is_empty()
                 && are_linked(&first.name, others)
-            {
-                names_differ(alloc, vertices)
-            } else {
-                Ok(false)
-            }
         }
-        None => Ok(false),
+        None => false,
     }
 }
 
@@ -100,24 +99,4 @@ fn are_linked(name: &Name, vertices: &[JobVertex]) -> bool
         }
         None => false,
     }
-}
-
-/// Whether no name comes twice.
-fn names_differ(alloc: Global, vertices: &[JobVertex]) -> Result<bool, NoMemory>
-    ensures { IfOk result (λ differ. differ ≡ all_new [] (spec.names_of vertices.now)) }
-{
-    let scope = scope_of(alloc, &[], vertices)?;
-    Ok(are_first(&scope, vertices))
-}
-
-/// Whether each is the first of its name.
-fn are_first(scope: &Scope<'_>, vertices: &[JobVertex]) -> bool
-    ensures { HasFaces (seen [] vertices.now) scope.now → result ≡ all_new [] (spec.names_of vertices.now) }
-{
-    for (position, v) in vertices.iter().enumerate() {
-        if is_taken(scope, &v.name, position) {
-            return false;
-        }
-    }
-    true
 }

@@ -1,4 +1,4 @@
-ghost use Rattle.std.specs.Prelude.{◌≡◌, ◌≤◌, length, map, string_bytes, unwrap_or, IfOk, OnOk};
+ghost use Rattle.std.specs.Prelude.{◌≡◌, ◌≤◌, [], ◌∷◌, length, map, string_bytes, unwrap_or, IfOk, OnOk};
 
 use nemo_transform::Transform;
 use nemo_value::{List, NoMemory};
@@ -48,8 +48,7 @@ impl<'a> Copies<'a> {
     {
         let place = self.nodes.len();
         let inputs = inputs_of(alloc, ports.as_slice(), place)?;
-        let mut own = List::with_capacity(alloc, 1)?;
-        own.push(Some(place))?;
+        let own = one_port(alloc, Some(place))?;
         self.nodes.push(Node {
             path,
             number: self.next,
@@ -59,6 +58,15 @@ impl<'a> Copies<'a> {
         self.next += 1;
         Ok(own)
     }
+}
+
+/// One port, which stands for this copy.
+pub(crate) fn one_port(alloc: Global, port: Option<usize>) -> Result<List<Option<usize>>, NoMemory>
+    ensures { IfOk result (λ ports. ports ≡ port ∷ []) }
+{
+    let mut ports = List::with_capacity(alloc, 1)?;
+    ports.push(port)?;
+    Ok(ports)
 }
 
 /// The copies that the ports of the copy of a place take; one that takes none has the place itself.

@@ -1,14 +1,14 @@
-ghost use Rattle.std.specs.Prelude.{◌≡◌, ◌<◌, ◌≤◌, [], length, map, option_map, true, IfOk, IfErr};
+ghost use Rattle.std.specs.Prelude.{◌≡◌, ◌<◌, ◌≤◌, ◌+◌, [], ◌++◌, if◌then◌else◌, None, length, map, option_map, option_to_list, true, IfOk, IfErr, OnOk};
 ghost use Rattle.std.specs.Cow.{cow_slice_items};
 ghost use Rattle.nemo_value.specs.Order.{record_cmp};
 ghost use Rattle.nemo_value.specs.Sorting.{sorted};
 ghost use Rattle.nemo_value.specs.Texts.{all_new};
-ghost use Rattle.nemo_job.specs.ByPlace.{first_fault, values};
+ghost use Rattle.nemo_job.specs.ByPlace.{first_fault, place_cmp, values};
 ghost use Rattle.nemo_job.specs.Ends.{IsEndOf, fault_end};
-ghost use Rattle.nemo_job.specs.Held.{IsGiven, IsPlaced, arisen_at, faults_given, known, node_of, sinks_given};
+ghost use Rattle.nemo_job.specs.Held.{IsGiven, IsHeld, IsLast, IsPlaced, arisen_at, faults_given, known, lesser, node_of, sink_at, sinks_given};
 ghost use Rattle.nemo_job.specs.Nodes.{copy_of};
 ghost use Rattle.nemo_job.specs.Sinks as spec;
-ghost use Rattle.nemo_job.specs.Sinks.{job_rows, job_faults};
+ghost use Rattle.nemo_job.specs.Sinks.{does_sink, job_rows, job_faults, with_sorted};
 ghost use Rattle.nemo_job.specs.Unrolled.{path_in};
 
 use crate::copies::Node;
@@ -23,7 +23,7 @@ use std::borrow::CowSlice;
 
 /// Why a job has no rows: its first fault by the vertex where it arose, which is named by its path, and then by kind
 /// and record; or want of memory.
-#[derive(Debug, Drop)]
+#[derive(Drop)]
 pub enum JobEnd {
     Fault { name: Text, kind: Kind, rec: Record },
     NoMemory,
@@ -87,16 +87,45 @@ fn all_held<'a>(alloc: Global, nodes: &[Node<'a>]) -> Result<Vec<Held<'a>>, NoMe
     ensures { IfOk result (λ held. IsGiven (map node_of nodes.now) (values (map node_of nodes.now)) (map known held.items)) }
 {
     let last = last_readers(alloc, nodes)?;
+    held_until(alloc, nodes, last.as_slice())
+}
+
+/// What each copy gave, where these are the last that take it.
+fn held_until<'a>(
+    alloc: Global,
+    nodes: &[Node<'a>],
+    last: &[Option<usize>],
+) -> Result<Vec<Held<'a>>, NoMemory>
+    requires placed { IsPlaced (map node_of nodes.now) }
+    requires last { IsLast (map node_of nodes.now) last.now }
+    ensures { IfOk result (λ held. IsGiven (map node_of nodes.now) (values (map node_of nodes.now)) (map known held.items)) }
+{
     let mut held = Vec::with_capacity(alloc, nodes.len())?;
-    for (place, node) in nodes.iter().enumerate() {
-        if last[place].is_some() {
-            let given = step(alloc, place, node, last.as_slice(), &mut held)?;
-            held.push(given)?;
-        } else {
-            held.push(nothing())?;
-        }
+    for place in 0..nodes.len() {
+        hold(alloc, nodes, place, last, &mut held)?;
     }
     Ok(held)
+}
+
+/// Holds what the copy of a place gives, if it reaches a sink, behind what those before it gave.
+fn hold<'a>(
+    alloc: Global,
+    nodes: &[Node<'a>],
+    place: usize,
+    last: &[Option<usize>],
+    held: &mut Vec<Held<'a>>,
+) -> Result<(), NoMemory>
+    requires placed { IsPlaced (map node_of nodes.now) }
+    requires last { IsLast (map node_of nodes.now) last.now }
+    requires within { place < length nodes.now }
+    requires held { IsHeld (values (map node_of nodes.now)) last.now place (map known held.old.items) }
+    ensures { OnOk result (IsHeld (values (map node_of nodes.now)) last.now (place + 1) (map known held.new.items)) }
+{
+    if last[place].is_none() {
+        return Ok(held.push(nothing())?);
+    }
+    let given = step(alloc, place, &nodes[place], last, held)?;
+    Ok(held.push(given)?)
 }
 
 /// What the sinks of a job got: their rows, in list order, and the first fault.
@@ -106,21 +135,36 @@ struct Ending {
     first: Option<Located>,
 }
 
+impl Ending {
+    /// What a vertex gave, if it is a sink.
+    fn add(&mut self, alloc: Global, transform: &Transform, given: Held<'_>) -> Result<(), NoMemory>
+        ensures sinks { OnOk result (self.new.sinks.items ≡ self.old.sinks.items ++ map with_sorted (option_to_list (sink_at transform.now (cow_slice_items given.entry.rows)))) }
+        ensures first { OnOk result (option_map arisen_at self.new.first ≡ lesser place_cmp (option_map arisen_at self.old.first) (if does_sink transform.now then option_map arisen_at given.entry.first else None)) }
+    {
+        if let Transform::Sink { name } = transform {
+            let Held { rows, first } = given;
+            self.first = earlier(self.first.take(), first);
+            let sink = sink_rows(alloc, name, rows)?;
+            self.sinks.push(sink)?;
+        }
+        Ok(())
+    }
+}
+
 /// What the sinks got, their rows in order.
 fn collected(alloc: Global, nodes: &[Node<'_>], held: Vec<Held<'_>>) -> Result<Ending, NoMemory>
     requires { IsGiven (map node_of nodes.now) (values (map node_of nodes.now)) (map known held.items) }
-    ensures sinks { IfOk result (λ e. e.sinks.items ≡ sinks_given (map node_of nodes.now) (values (map node_of nodes.now))) }
+    ensures sinks { IfOk result (λ e. e.sinks.items ≡ map with_sorted (sinks_given (map node_of nodes.now) (values (map node_of nodes.now)))) }
     ensures first { IfOk result (λ e. option_map arisen_at e.first ≡ first_fault (faults_given (map node_of nodes.now) (values (map node_of nodes.now)))) }
 {
-    let mut sinks = Vec::new(alloc);
-    let mut first = None;
+    let mut ending = Ending {
+        sinks: Vec::new(alloc),
+        first: None,
+    };
     for (node, given) in nodes.iter().zip(held) {
-        if let Transform::Sink { name } = node.transform {
-            sinks.push(sink_rows(alloc, name, given.rows)?)?;
-            first = earlier(first, given.first);
-        }
+        ending.add(alloc, node.transform, given)?;
     }
-    Ok(Ending { sinks, first })
+    Ok(ending)
 }
 
 /// What a sink of a name got, its rows in order.

@@ -14,7 +14,7 @@ use std::alloc::Global;
 use std::borrow::CowSlice;
 
 /// A fault, with the place of the vertex where it arose. Faults are ordered by place, kind and record.
-#[derive(Debug, PartialEq, Eq, PartialOrd, Ord, Drop)]
+#[derive(PartialEq, Eq, PartialOrd, Ord, Drop)]
 pub(crate) struct Located {
     pub(crate) place: usize,
     pub(crate) kind: Kind,

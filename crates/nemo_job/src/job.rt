@@ -9,7 +9,7 @@ use std::alloc::Global;
 use std::marker::Model;
 
 /// A job: the list of its vertices, of which nothing is refused. Contracts see the list.
-#[derive(Debug, Drop)]
+#[derive(Drop)]
 pub struct Job {
     vertices: List<JobVertex>,
 }
@@ -31,7 +31,7 @@ impl Model for Job {
 }
 
 /// Why vertices are no job: the code of the refusal, with the place of the vertex that it names, or want of memory.
-#[derive(Clone, Copy, Debug, PartialEq, Eq)]
+#[derive(Drop)]
 pub enum JobRefused {
     Refused { code: u32, place: u64 },
     NoMemory,

@@ -19,5 +19,6 @@ pub use chain::is_chain;
 pub use copies::Node;
 pub use evaluate::{JobEnd, eval_job};
 pub use job::{Job, JobRefused};
+pub use readers::last_readers;
 pub use unrolling::unroll;
 pub use vertex::{JobVertex, Ref, Work};

@@ -3,6 +3,7 @@ ghost use Rattle.nemo_job.specs.NamesBound.{HasNames};
 ghost use Rattle.nemo_job.specs.Unrolled as spec;
 ghost use Rattle.nemo_job.specs.Unrolled.{Bound, source_of};
 
+use crate::copies::one_port;
 use crate::vertex::Ref;
 use indexmap::IndexMap;
 use nemo_value::{List, Name, NoMemory};
@@ -34,11 +35,22 @@ impl<'a> Names<'a> {
     {
         let mut names = Names::new(alloc);
         for (port, name) in ports.iter().zip(carry) {
-            let mut own = List::with_capacity(alloc, 1)?;
-            own.push(*port)?;
-            names.bind(name.as_str(), own)?;
+            names.bind_port(alloc, name, *port)?;
         }
         Ok(names)
+    }
+
+    /// The name of a port of a turn.
+    fn bind_port(
+        &mut self,
+        alloc: Global,
+        name: &'a Name,
+        port: Option<usize>,
+    ) -> Result<(), NoMemory>
+        ensures { OnOk result ((bs : Sequence Bound) → HasNames bs self.old → HasNames (bs ++ record { name = name.now; ports = port ∷ [] } ∷ []) self.new) }
+    {
+        let ports = one_port(alloc, port)?;
+        self.bind(name.as_str(), ports)
     }
 
     /// One name more.
@@ -68,9 +80,7 @@ impl<'a> Names<'a> {
     fn source(&self, r: &Ref) -> Option<usize>
         ensures { (bs : Sequence Bound) → HasNames bs self.now → result ≡ source_of bs r.now }
     {
-        match self.ports.get(r.name.as_str()) {
-            Some(ports) => ports.get(r.port as usize).copied().flatten(),
-            None => None,
-        }
+        let ports = self.ports.get(r.name.as_str())?;
+        ports.get(r.port as usize).copied().flatten()
     }
 }

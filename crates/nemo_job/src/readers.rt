@@ -7,11 +7,9 @@ use nemo_transform::Transform;
 use nemo_value::NoMemory;
 use std::alloc::Global;
 
-/// For each vertex that reaches a sink the last vertex that takes what it gives, and for a sink the number of vertices.
-pub(crate) fn last_readers(
-    alloc: Global,
-    nodes: &[Node<'_>],
-) -> Result<Vec<Option<usize>>, NoMemory>
+/// For each copy that reaches a sink the place of the last copy that takes what it gives, and for a sink the number of
+/// copies; nothing for a copy that reaches no sink.
+pub fn last_readers(alloc: Global, nodes: &[Node<'_>]) -> Result<Vec<Option<usize>>, NoMemory>
     requires { IsLower (map node_of nodes.now) }
     ensures { IfOk result (λ last. IsLast (map node_of nodes.now) last.items) }
 {

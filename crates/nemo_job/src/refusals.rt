@@ -16,20 +16,34 @@ use nemo_transform::Transform;
 use nemo_value::{Name, NoMemory};
 use std::alloc::Global;
 
-const DOUBLE_NAME: u32 = 3;
+/// What vertices fail at that are no job, in the order in which it is looked at.
+#[derive(Drop)]
+enum Code {
+    DoubleName,
+    UnknownInput,
+    Forward,
+    PortCount,
+    BadLoop,
+    NoSink,
+}
 
-const UNKNOWN_INPUT: u32 = 4;
-
-const FORWARD: u32 = 5;
-
-const PORT_COUNT: u32 = 6;
-
-const BAD_LOOP: u32 = 7;
-
-const NO_SINK: u32 = 8;
+impl Code {
+    fn number(self) -> u32
+        ensures { result ≡ spec.number self }
+    {
+        match self {
+            Code::DoubleName => 3,
+            Code::UnknownInput => 4,
+            Code::Forward => 5,
+            Code::PortCount => 6,
+            Code::BadLoop => 7,
+            Code::NoSink => 8,
+        }
+    }
+}
 
 /// How many vertices a walk met, and the first of them at which each code fails.
-#[derive(Clone, Copy)]
+#[derive(Drop)]
 struct Found {
     count: u64,
     double: Option<u64>,
@@ -72,10 +86,7 @@ impl Found {
 fn first_of(noted: Option<u64>, fails: bool, here: u64) -> Option<u64>
     ensures { result ≡ walks.first_of noted fails here }
 {
-    match noted {
-        Some(place) => Some(place),
-        None => if fails { Some(here) } else { None },
-    }
+    noted.or(if fails { Some(here) } else { None })
 }
 
 /// Ok where nothing is refused, and else the first refusal.
@@ -85,20 +96,23 @@ pub(crate) fn look_at(alloc: Global, vertices: &[JobVertex]) -> Result<(), JobRe
     ensures err { IfErr result (IsRefused vertices.now) }
 {
     let found = walk_all(alloc, vertices)?;
-    refuse_at(DOUBLE_NAME, found.double)?;
-    refuse_at(UNKNOWN_INPUT, found.unknown)?;
-    refuse_at(FORWARD, found.forward)?;
-    refuse_at(PORT_COUNT, found.misfed)?;
-    refuse_at(BAD_LOOP, found.bad_loop)?;
-    refuse_at(NO_SINK, sinkless(vertices))
+    refuse_at(Code::DoubleName, found.double)?;
+    refuse_at(Code::UnknownInput, found.unknown)?;
+    refuse_at(Code::Forward, found.forward)?;
+    refuse_at(Code::PortCount, found.misfed)?;
+    refuse_at(Code::BadLoop, found.bad_loop)?;
+    refuse_at(Code::NoSink, sinkless(vertices))
 }
 
-fn refuse_at(code: u32, place: Option<u64>) -> Result<(), JobRefused>
+fn refuse_at(code: Code, place: Option<u64>) -> Result<(), JobRefused>
     ensures ok { OnOk result (place ≡ None) }
     ensures err { IfErr result (IsCoded (at_place code place)) }
 {
     match place {
-        Some(place) => Err(JobRefused::Refused { code, place }),
+        Some(place) => Err(JobRefused::Refused {
+            code: code.number(),
+            place,
+        }),
         None => Ok(()),
     }
 }

@@ -102,10 +102,7 @@ pub(crate) fn is_taken(scope: &Scope<'_>, name: &Name, position: usize) -> bool
     ensures taken { result ≡ is_before position (named_in scope.now name.now) }
     ensures name { is_name name.now ≡ true }
 {
-    match find(scope, name) {
-        Some(named) => named.position < position,
-        None => false,
-    }
+    find(scope, name).is_some_and(|named| named.position < position)
 }
 
 /// Whether each names a port that gives rows.
@@ -118,10 +115,7 @@ pub(crate) fn are_known(scope: &Scope<'_>, refs: &[Ref]) -> bool
 fn is_known(scope: &Scope<'_>, r: &Ref) -> bool
     ensures { result ≡ is_known_in scope.now r.now }
 {
-    match find(scope, &r.name) {
-        Some(named) => !named.is_sink && (r.port as usize) < named.ports,
-        None => false,
-    }
+    find(scope, &r.name).is_some_and(|named| !named.is_sink && (r.port as usize) < named.ports)
 }
 
 /// Whether one names the vertex of the place or a later one.
@@ -134,8 +128,5 @@ pub(crate) fn is_any_from(scope: &Scope<'_>, position: usize, refs: &[Ref]) -> b
 fn names_from(scope: &Scope<'_>, r: &Ref, position: usize) -> bool
     ensures { result ≡ is_from position (named_in scope.now r.now.name) }
 {
-    match find(scope, &r.name) {
-        Some(named) => position <= named.position,
-        None => false,
-    }
+    find(scope, &r.name).is_some_and(|named| position <= named.position)
 }

@@ -23,7 +23,7 @@ const MAX_PORTS: usize = 16;
 pub(crate) const MAX_AROUND: u32 = 2;
 
 /// Which codes fail at a vertex.
-#[derive(Clone, Copy)]
+#[derive(Drop)]
 pub(crate) struct Fails {
     pub(crate) double: bool,
     pub(crate) unknown: bool,

@@ -1,9 +1,9 @@
-ghost use Rattle.std.specs.Prelude.{◌≡◌, List as Sequence, map, string_bytes, IfOk, OnOk};
+ghost use Rattle.std.specs.Prelude.{◌≡◌, ◌++◌, List as Sequence, map, string_bytes, IfOk, OnOk};
 ghost use Rattle.nemo_job.specs.Mean as mean;
 ghost use Rattle.nemo_job.specs.NamesBound.{HasNames, IsGrown, IsScope, copies_of, fed};
 ghost use Rattle.nemo_job.specs.Nodes.{copy_of};
 ghost use Rattle.nemo_job.specs.Unrolled as spec;
-ghost use Rattle.nemo_job.specs.Unrolled.{Bound, unrolled};
+ghost use Rattle.nemo_job.specs.Unrolled.{Bound, source_of, unrolled};
 
 use crate::copies::{Copies, Node};
 use crate::names::Names;
@@ -20,6 +20,20 @@ pub fn unroll<'a>(alloc: Global, vertices: &'a [JobVertex]) -> Result<Vec<Node<'
     let mut names = Names::new(alloc);
     unroll_all(alloc, vertices, "", &mut names, &mut copies)?;
     Ok(copies.nodes)
+}
+
+/// The path of a vertex under that of what it stands in, and the copies that its ports take.
+fn placed(
+    alloc: Global,
+    v: &JobVertex,
+    path: &str,
+    names: &Names<'_>,
+) -> Result<(String, List<Option<usize>>), NoMemory>
+    ensures path { IfOk result (λ at. string_bytes at.0 ≡ path.now ++ v.now.name) }
+    ensures inputs { IfOk result (λ at. (bs : Sequence Bound) → HasNames bs names.now → at.1 ≡ map (source_of bs) v.now.inputs) }
+{
+    let inputs = names.sources(alloc, v.inputs.as_slice())?;
+    Ok((joined(alloc, path, v.name.as_str())?, inputs))
 }
 
 // The recursion over the vertices of a body: all of them, one of them, its work, a loop's turns, and one turn.
@@ -53,10 +67,9 @@ fn unroll_vertex<'a>(
     ensures scope { OnOk result ((bs : Sequence Bound) → HasNames bs names.old → IsScope (spec.unroll_vertex v.now path.now (record { copies = copies_of copies.old; names = bs })) copies.new names.new) }
     ensures grown { OnOk result (IsGrown copies.old copies.new) }
 {
-    let name = v.name.as_str();
-    let inputs = names.sources(alloc, v.inputs.as_slice())?;
-    let ports = unroll_work(alloc, &v.work, joined(alloc, path, name)?, inputs, copies)?;
-    names.bind(name, ports)
+    let (inside, inputs) = placed(alloc, v, path, names)?;
+    let ports = unroll_work(alloc, &v.work, inside, inputs, copies)?;
+    names.bind(v.name.as_str(), ports)
 }
 
 /// A work on its path and its ports; what its own ports stand for.

@@ -7,4 +7,4 @@ use Rattle.nemo_job.proofs.evaluate.collected.Given as goal
 
 -- what the sinks so far got
 abbrev pub invariant-loop-node : goal.invariant-loop-node
-invariant-loop-node l = SoFar (map node_of l.nodes) (values (map node_of l.nodes)) (length l.yielded) l.sinks.items (option_map arisen_at l.first)
+invariant-loop-node l = SoFar (map node_of l.nodes) (values (map node_of l.nodes)) (length l.yielded) l.ending.sinks.items (option_map arisen_at l.ending.first)

@@ -10,11 +10,10 @@ pub loop-port-preserved : goal.loop-port-preserved
 loop-port-preserved c =
     let t = YieldsList-turn (YieldsList-from_zip {s = c.into_iter-port-iterator.result} (YieldsList-from_slice c.args.ports.now (cc)) (YieldsList-from_slice c.args.carry.now (cc))) c.loop-port.yielded c.loop-port.port-iterator c.loop-port.yielded_by _ c.next.new.self (c.in-Some.port, c.in-Some.name) c.in-Some.is c.next.ensures.steps in
     let z = zip c.args.ports.now c.args.carry.now in
-    subst (λ n. HasNames (map one_bound (take n z)) c.bind.new.self) (sym (length-append c.loop-port.yielded ((c.in-Some.port, c.in-Some.name) ∷ [])))
-    (subst (λ bs. HasNames bs c.bind.new.self)
-    (bound-more c.args.ports.now c.args.carry.now (length c.loop-port.yielded) (c.in-Some.port.now, c.in-Some.name.now) c.push.new.self c.as_str.result.now t
-    (c.in_ok-push.ensures.ok ∙ ap (λ own. own ++ c.in-Some.port.now ∷ []) c.in_ok-own.ensures) c.as_str.ensures.text)
-    (c.in_ok-bind.ensures (map one_bound (take (length c.loop-port.yielded) z)) c.loop-port.invariant))
+    subst (λ n. HasNames (map one_bound (take n z)) c.bind_port.new.self) (sym (length-append c.loop-port.yielded ((c.in-Some.port, c.in-Some.name) ∷ [])))
+    (subst (λ bs. HasNames bs c.bind_port.new.self)
+    (bound-more c.args.ports.now c.args.carry.now (length c.loop-port.yielded) (c.in-Some.port.now, c.in-Some.name.now) t)
+    (c.in_ok-bind_port.ensures (map one_bound (take (length c.loop-port.yielded) z)) c.loop-port.invariant))
 
 pub returns : goal.returns
 returns c =
