@@ -1,5 +1,5 @@
 -- One entry more of a list that becomes cuts.
-use Rattle.std.proofs.Common.{arith, ◌≡◌, ◌≤◌, ◌∙◌, sym, ap, refl, ℕ, ◌+◌, ◌-◌, ◌<◌, ◌&&◌, List, [], ◌∷◌, ◌++◌, Bool, true, false, cond, nat_le, nat_lt, get_or, take, drop, length, replicate, Some}
+use Rattle.std.proofs.Common.{arith, ◌≡◌, ◌≤◌, ◌∙◌, sym, ap, refl, ℕ, ◌+◌, ◌-◌, ◌<◌, ◌&&◌, List, [], ◌∷◌, ◌++◌, Bool, true, false, cond, nat_le, nat_lt, get_or, take, drop, length, replicate, None, Some}
 use Rattle.std.specs.Prelude.{slice_set}
 use Rattle.std.proofs.lemmas.Bool.{le-leb, le-ltb, lt-leb, lt-ltb}
 use Rattle.std.proofs.lemmas.List.{at_drop_more, length-take-le, take-append-drop, take_more, take_more_set}
@@ -35,11 +35,12 @@ falls true false before cut low = refl
 falls false b before cut low = refl
 
 -- places whose first are the cuts, and the others 0
-pub are_cuts : (n : ℕ) (places : List ℕ) → n ≤ 63 → length places ≡ 63 → drop n places ≡ replicate (63 - n) 0 → AreCuts places n
-are_cuts n places few room zeros =
+pub are_cuts : (n : ℕ) (places : List ℕ) → n ≤ 63 → length places ≡ 63 → drop n places ≡ replicate (63 - n) 0 → bad_cut 0 0 (take n places) ≡ None → AreCuts places n
+are_cuts n places few room zeros good =
     let counted : length (take n places) ≡ n = length-take-le n places (omega (arith, few, room)) in
     record {
       few = few;
       counted = counted;
       rest = ap (λ m. take n places ++ replicate (63 - m) 0) counted ∙ ap (λ l. take n places ++ l) (sym zeros) ∙ take-append-drop n places;
+      good = good;
     }

@@ -15,15 +15,17 @@ even_cuts n = map (even_cut n) (range_with_len 1 (n - 1))
 abbrev pub padded : List ℕ → List ℕ
 padded cuts = cuts ++ replicate (63 - length cuts) 0
 
-pub record AreCuts (places : List ℕ) (count : ℕ) : Type 0 where
-  pub few : count ≤ 63
-  pub counted : length (take count places) ≡ count
-  pub rest : padded (take count places) ≡ places
-
 -- the place, counted from i, of the first entry that is the 64th, exceeds 256, or is less than the one before it
 abbrev pub bad_cut : ℕ → ℕ → List ℕ → Option ℕ
 bad_cut i before [] = None
 bad_cut i before (cut ∷ cuts) = if nat_lt i 63 && nat_le cut 256 && nat_le before cut then bad_cut (i + 1) cut cuts else Some i
+
+-- what cuts keep: at most 63 entries, none above 256, none less than the one before it, and 0 at the places after them
+pub record AreCuts (places : List ℕ) (count : ℕ) : Type 0 where
+  pub few : count ≤ 63
+  pub counted : length (take count places) ≡ count
+  pub rest : padded (take count places) ≡ places
+  pub good : bad_cut 0 0 (take count places) ≡ None
 
 -- the task to which cuts deal a bucket: how many of them it has passed
 abbrev pub task_at : List ℕ → ℕ → ℕ

@@ -1,3 +1,10 @@
 pub mod Cuts
+pub mod LeastCuts
+pub mod Needed
 pub mod Numbered
+pub mod Places
+pub mod Samples
+pub mod Script
+pub mod Settings
 pub mod Sound
+pub mod Words

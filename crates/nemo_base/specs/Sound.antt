@@ -1,23 +1,11 @@
 -- What a graph of tasks has to keep, line by line.
-use Rattle.std.specs.Prelude.{ℕ, ◌+◌, ◌&&◌, ◌||◌, ◌==◌, Bool, true, false, not, nat_le, nat_lt, List, [], ◌∷◌, length, slice_get, Option, Some, None}
+use Rattle.std.specs.Prelude.{ℕ, ◌&&◌, ◌||◌, ◌==◌, Bool, nat_le, nat_lt, length, slice_get, Option}
 use Rattle.std.specs.List.{list_all, list_any}
+pub use Rattle.nemo_base.specs.Places.{all_at, differ, is_in, passes}
 use Rattle.nemo_base.specs.declared.graph.Read.{Read}
 use Rattle.nemo_base.specs.declared.graph.StageRow.{StageRow}
 use Rattle.nemo_base.specs.declared.graph.TaskGraph.{TaskGraph}
 use Rattle.nemo_base.specs.declared.graph.VertexRow.{VertexRow}
-
--- whether there is one and it passes
-abbrev pub passes : {X : Type 0} → (X → Bool) → Option X → Bool
-passes test (Some x) = test x
-passes test None = false
-
-abbrev pub is_in : ℕ → List ℕ → Bool
-is_in n ns = list_any (λ m. m == n) ns
-
--- whether no number comes twice
-abbrev pub differ : List ℕ → Bool
-differ [] = true
-differ (n ∷ ns) = not (is_in n ns) && differ ns
 
 -- a parallelism is 1 to 64
 abbrev pub is_parallelism : ℕ → Bool
@@ -50,11 +38,6 @@ reads_all s number = list_any (λ r. r.wide && (r.vertex == number)) s.reads
 -- the vertex has the parallelism of its stage, and its triggers are wide reads of that stage
 abbrev pub is_vertex : TaskGraph → VertexRow → Bool
 is_vertex g v = passes (λ s. (v.parallelism == s.parallelism) && list_all (reads_all s) v.triggers) (stage_of g v)
-
--- whether each item passes at its place, from a place on
-abbrev pub all_at : {X : Type 0} → (ℕ → X → Bool) → ℕ → List X → Bool
-all_at test i [] = true
-all_at test i (x ∷ xs) = test i x && all_at test (i + 1) xs
 
 abbrev pub is_sound : TaskGraph → Bool
 is_sound g = all_at (is_stage g) 0 g.stages && list_all (is_vertex g) g.vertices

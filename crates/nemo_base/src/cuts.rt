@@ -1,15 +1,13 @@
 ghost use Rattle.std.specs.Prelude.{◌≡◌, ◌+◌, ◌-◌, ◌<◌, ◌≤◌, length, slice_index, Some, None, IfErr, IfOk, OnOk};
 ghost use Rattle.nemo_base.specs.Cuts.{bad_cut, even_cuts, task_at};
 
+use crate::limits::MAX_CUTS;
 use nemo_value::Same;
 use std::marker::Model;
 
-/// The most cuts that a vertex can have.
-const MAX_CUTS: usize = 63;
-
 /// Where the tasks of a vertex begin among the buckets 0 to 255, but for the first, which begins at 0: task i takes
 /// the buckets from cut i - 1 up to, but without, cut i. Contracts see the list of the cuts.
-#[derive(Clone, Copy, Debug)]
+#[derive(Clone, Copy)]
 pub struct Cuts {
     places: [u16; MAX_CUTS],
     count: usize,
@@ -31,7 +29,7 @@ impl Model for Cuts {
 }
 
 /// A list is no cuts: `place` is that of the first entry, counted from 0, that is one too many, exceeds 256, or falls.
-#[derive(Clone, Copy, Debug, PartialEq, Eq)]
+#[derive(Clone, Copy)]
 pub struct CutsRefused {
     pub place: u64,
 }
@@ -78,8 +76,10 @@ impl Cuts {
         Cuts { places, count }
     }
 
+    /// The list of the cuts.
     pub fn as_slice(&self) -> &[u16]
-        ensures { result.now ≡ self.now }
+        ensures list { result.now ≡ self.now }
+        ensures cuts { bad_cut 0 0 result.now ≡ None }
     {
         &self.places[..self.count]
     }

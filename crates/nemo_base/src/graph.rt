@@ -3,14 +3,14 @@ use nemo_value::{List, NoMemory, TryCopy};
 use std::alloc::Global;
 
 /// The stages of a plan and their vertices, as far as a run has to know them.
-#[derive(Debug, Drop)]
+#[derive(Drop)]
 pub struct TaskGraph {
     pub stages: List<StageRow>,
     pub vertices: List<VertexRow>,
 }
 
 /// A stage. It has a task for each number below its parallelism.
-#[derive(Debug, Drop)]
+#[derive(Drop)]
 pub struct StageRow {
     pub class: Class,
     pub parallelism: u32,
@@ -23,14 +23,14 @@ pub struct StageRow {
 }
 
 /// What a task reads of a vertex of another stage: the block of its own number, or, where it is wide, all blocks.
-#[derive(Clone, Copy, Debug, PartialEq, Eq)]
+#[derive(Clone, Copy)]
 pub struct Read {
     pub vertex: u32,
     pub wide: bool,
 }
 
 /// A vertex of a stage.
-#[derive(Debug, Drop)]
+#[derive(Drop)]
 pub struct VertexRow {
     pub stage: u32,
     pub parallelism: u32,
@@ -44,7 +44,7 @@ pub struct VertexRow {
 }
 
 /// Where the blocks of a vertex lie.
-#[derive(Clone, Copy, Debug, PartialEq, Eq)]
+#[derive(Clone, Copy)]
 pub enum Home {
     /// With the master, as those of a sink.
     Master,

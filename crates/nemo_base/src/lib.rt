@@ -6,6 +6,7 @@ mod cuts;
 mod graph;
 mod id;
 mod law;
+pub mod limits;
 mod moves;
 mod script;
 mod settings;

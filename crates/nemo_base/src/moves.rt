@@ -2,7 +2,7 @@ use crate::cuts::Cuts;
 use crate::id::{BlockId, TaskId};
 
 /// A move of a schedule, by which a run is played.
-#[derive(Clone, Copy, Debug)]
+#[derive(Clone, Copy)]
 pub enum Move {
     /// The task begins on the slot.
     Launch { task: TaskId, slot: u32 },

@@ -1,7 +1,7 @@
 use crate::cuts::Cuts;
 
 /// What a line of a script does.
-#[derive(Clone, Copy, Debug)]
+#[derive(Clone, Copy)]
 pub enum Action {
     /// The slot goes, and comes back empty.
     Evict(u32),
@@ -10,7 +10,7 @@ pub enum Action {
 }
 
 /// A line of a script: what is done once so many commits were made.
-#[derive(Clone, Copy, Debug)]
+#[derive(Clone, Copy)]
 pub struct ScriptLine {
     pub at: u32,
     pub action: Action,

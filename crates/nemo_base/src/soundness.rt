@@ -3,6 +3,7 @@ ghost use Rattle.std.specs.List.{list_all};
 ghost use Rattle.nemo_base.specs.Sound as spec;
 
 use crate::graph::{Read, StageRow, TaskGraph, VertexRow};
+use crate::limits::MAX_PARALLELISM;
 
 impl TaskGraph {
     /// Whether each number names something, each parallelism is 1 to 64, each stage names at least one vertex in
@@ -40,7 +41,7 @@ fn is_stage(graph: &TaskGraph, number: usize, stage: &StageRow) -> bool
 fn is_parallelism(n: u32) -> bool
     ensures { result ≡ spec.is_parallelism n }
 {
-    1 <= n && n <= 64
+    1 <= n && n <= MAX_PARALLELISM
 }
 
 fn is_in(number: u32, numbers: &[u32]) -> bool

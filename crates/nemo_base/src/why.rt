@@ -1,5 +1,5 @@
 /// Why an event or a move is refused.
-#[derive(Clone, Copy, Debug, PartialEq, Eq)]
+#[derive(Clone, Copy)]
 pub enum Why {
     /// The run has ended.
     Over,

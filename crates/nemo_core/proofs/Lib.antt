@@ -1,5 +1,9 @@
+pub mod Allowed
+pub mod Cells
+pub mod Commits
 pub mod Failing
 pub mod Holders
 pub mod Places
+pub mod Single
 pub mod Sound
 pub mod Turns

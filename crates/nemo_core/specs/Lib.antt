@@ -1,3 +1,4 @@
+pub mod Cell
 pub mod Needed
 pub mod Numbered
 pub mod Reading

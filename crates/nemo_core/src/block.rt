@@ -1,112 +1,63 @@
-ghost use Rattle.std.specs.Prelude.{◌≡◌, ◌%◌, max, slice_get};
-ghost use Rattle.nemo_core.specs.Numbered.{map_at};
+ghost use Rattle.std.specs.Prelude.{◌≡◌, ◌%◌, max, slice_get, slice_index_or};
+ghost use Rattle.nemo_base.specs.Places.{map_at};
+ghost use Rattle.nemo_core.specs.Cell as cell;
 ghost use Rattle.nemo_core.specs.Step as spec;
 
 use crate::event::HeldBy;
-use crate::row::{Attempt, TaskRow};
-use crate::task::{running_of, stage_tasks};
+use crate::grid::Grid;
+use crate::row::Attempt;
+use crate::task::Place;
 use nemo_base::{Home, Settings, TaskGraph};
 use nemo_value::List;
 
-/// The gone blocks of the task that runs the attempt are held at their homes.
-pub(crate) fn fill(
-    blocks: &mut Vec<List<Option<HeldBy>>>,
-    graph: &TaskGraph,
-    settings: Settings,
-    incs: &[u64],
-    tasks: &[List<TaskRow>],
-    attempt: u64,
-)
-    ensures { blocks.new.items ≡ map_at (λ v blocks. spec.filled_row settings incs.now tasks.now attempt (slice_get graph.now.vertices v) blocks) 0 blocks.old.items }
+/// What a commit fills gone blocks with: the attempt that ran a task, and what the homes of its blocks rest on.
+#[derive(Clone, Copy)]
+pub(crate) struct Commit<'a> {
+    pub(crate) settings: Settings,
+    pub(crate) incs: &'a [u64],
+    pub(crate) place: Place,
+    pub(crate) attempt: Attempt,
+}
+
+/// The gone blocks of the task are held at their homes.
+pub(crate) fn fill(blocks: &mut Grid<Option<HeldBy>>, graph: &TaskGraph, commit: &Commit<'_>)
+    ensures { blocks.new ≡ map_at (λ v row. cell.filled_at commit.now.settings commit.now.incs.now commit.now.attempt commit.now.place.stage commit.now.place.index (slice_get graph.now.vertices v) row) 0 blocks.old }
 {
-    for v in 0..blocks.len() {
-        fill_row(&mut blocks[v], v, graph, settings, incs, tasks, attempt);
+    fill_rows(&mut blocks.rows, graph, commit);
+}
+
+fn fill_rows(rows: &mut Vec<List<Option<HeldBy>>>, graph: &TaskGraph, commit: &Commit<'_>)
+    ensures { rows.new.items ≡ map_at (λ v row. cell.filled_at commit.now.settings commit.now.incs.now commit.now.attempt commit.now.place.stage commit.now.place.index (slice_get graph.now.vertices v) row) 0 rows.old.items }
+{
+    for v in 0..rows.len() {
+        fill_row(&mut rows[v], v, graph, commit);
     }
 }
 
-fn fill_row(
-    blocks: &mut List<Option<HeldBy>>,
-    v: usize,
-    graph: &TaskGraph,
-    settings: Settings,
-    incs: &[u64],
-    tasks: &[List<TaskRow>],
-    attempt: u64,
-)
-    ensures { blocks.new ≡ spec.filled_row settings incs.now tasks.now attempt (slice_get graph.now.vertices v) blocks.old }
+fn fill_row(blocks: &mut List<Option<HeldBy>>, v: usize, graph: &TaskGraph, commit: &Commit<'_>)
+    ensures { blocks.new ≡ cell.filled_at commit.now.settings commit.now.incs.now commit.now.attempt commit.now.place.stage commit.now.place.index (slice_get graph.now.vertices v) blocks.old }
 {
     if let Some(row) = graph.vertices.get(v) {
-        let rows = stage_tasks(tasks, row.stage as usize);
-        fill_all(blocks, row.home, rows, settings, incs, attempt);
+        if row.stage as usize == commit.place.stage {
+            put(blocks, commit.place.index, home_of(commit, row.home));
+        }
     }
 }
 
-fn fill_all(
-    blocks: &mut List<Option<HeldBy>>,
-    home: Home,
-    rows: &[TaskRow],
-    settings: Settings,
-    incs: &[u64],
-    attempt: u64,
-)
-    ensures { blocks.new ≡ map_at (spec.filled settings incs.now attempt home rows.now) 0 blocks.old }
+/// Block `i` is held so where it was gone.
+fn put(blocks: &mut List<Option<HeldBy>>, i: usize, held: HeldBy)
+    ensures { blocks.new ≡ cell.put held i blocks.old }
 {
-    for i in 0..blocks.len() {
-        let held = filled(blocks.as_slice()[i], i, home, rows, settings, incs, attempt);
-        blocks.set(i, held);
+    if let Some(None) = blocks.as_slice().get(i).copied() {
+        blocks.set(i, Some(held));
     }
 }
 
-fn filled(
-    held: Option<HeldBy>,
-    i: usize,
-    home: Home,
-    rows: &[TaskRow],
-    settings: Settings,
-    incs: &[u64],
-    attempt: u64,
-) -> Option<HeldBy>
-    ensures { result ≡ spec.filled settings incs.now attempt home rows.now i held }
+/// Who holds the task's block of a vertex whose blocks lie there.
+fn home_of(commit: &Commit<'_>, home: Home) -> HeldBy
+    ensures { result ≡ spec.home_of commit.now.settings commit.now.incs.now commit.now.attempt.number commit.now.place.index home commit.now.attempt }
 {
-    match held {
-        Some(held) => Some(held),
-        None => made(
-            i,
-            home,
-            running_of(rows.get(i).copied()),
-            settings,
-            incs,
-            attempt,
-        ),
-    }
-}
-
-fn made(
-    i: usize,
-    home: Home,
-    running: Option<Attempt>,
-    settings: Settings,
-    incs: &[u64],
-    attempt: u64,
-) -> Option<HeldBy>
-    ensures { result ≡ spec.made settings incs.now attempt i home running }
-{
-    match running {
-        Some(a) if a.number == attempt => Some(home_of(i, home, a, settings, incs, attempt)),
-        _ => None,
-    }
-}
-
-fn home_of(
-    i: usize,
-    home: Home,
-    a: Attempt,
-    settings: Settings,
-    incs: &[u64],
-    attempt: u64,
-) -> HeldBy
-    ensures { result ≡ spec.home_of settings incs.now attempt i home a }
-{
+    let attempt = commit.attempt.number;
     match home {
         Home::Master => HeldBy {
             slot: None,
@@ -114,16 +65,22 @@ fn home_of(
             attempt,
         },
         Home::Pushed => HeldBy {
-            slot: Some(reserved_slot(i, settings)),
+            slot: Some(reserved_slot(commit.place.index, commit.settings)),
             inc: 0,
             attempt,
         },
         Home::Local => HeldBy {
-            slot: Some(a.slot),
-            inc: incs.get(a.slot as usize).copied().unwrap_or(0),
+            slot: Some(commit.attempt.slot),
+            inc: incarnation(commit.incs, commit.attempt.slot),
             attempt,
         },
     }
+}
+
+fn incarnation(incs: &[u64], slot: u32) -> u64
+    ensures { result ≡ slice_index_or incs.now slot 0 }
+{
+    incs.get(slot as usize).copied().unwrap_or(0)
 }
 
 fn reserved_slot(i: usize, settings: Settings) -> u32

@@ -2,7 +2,7 @@ use nemo_base::{BlockId, Cuts, TaskId, Why};
 use nemo_value::{Kind, List, Record};
 
 /// What happens in a run. Attempts are numbered from 0, in the order of their launches.
-#[derive(Debug, Drop)]
+#[derive(Drop)]
 pub enum Event {
     /// A task starts on a slot. `reads` has the attempts that made the blocks it reads, in order.
     Launch {
@@ -64,7 +64,7 @@ pub enum Event {
 }
 
 /// Whether a run goes on, or how it ended.
-#[derive(Clone, Copy, Debug, PartialEq, Eq)]
+#[derive(Clone, Copy)]
 pub enum Outcome {
     Going,
     Done,
@@ -75,7 +75,7 @@ pub enum Outcome {
 
 /// Who holds a block: the attempt that made it, and its home with the incarnation that this had. The master is no
 /// slot, and has incarnation 0.
-#[derive(Clone, Copy, Debug, PartialEq, Eq)]
+#[derive(Clone, Copy)]
 pub struct HeldBy {
     pub slot: Option<u32>,
     pub inc: u64,
@@ -83,7 +83,7 @@ pub struct HeldBy {
 }
 
 /// Where an attempt runs: its task, and its slot with the slot's incarnation.
-#[derive(Clone, Copy, Debug, PartialEq, Eq)]
+#[derive(Clone, Copy)]
 pub struct RunningAt {
     pub task: TaskId,
     pub slot: u32,
@@ -91,7 +91,7 @@ pub struct RunningAt {
 }
 
 /// Why there is no event for a launch.
-#[derive(Clone, Copy, Debug, PartialEq, Eq)]
+#[derive(Clone, Copy)]
 pub enum LaunchRefused {
     /// The launch isn't allowed.
     Refused(Why),

@@ -1,14 +1,15 @@
 ghost use Rattle.std.specs.Prelude.{◌≡◌, ◌++◌, map, None, IfOk, IfErr, IfSome, OnOk};
 ghost use Rattle.std.specs.List.{flat_map};
-ghost use Rattle.nemo_core.specs.Needed.{below};
+ghost use Rattle.nemo_value.specs.Counted.{below};
 ghost use Rattle.nemo_core.specs.Reading.{Tells, first_of, launch_of, launchable, may_launch};
 ghost use Rattle.nemo_core.specs.Run.{refusal_in};
 ghost use Rattle.nemo_core.specs.State.{blocks_read, holder, read_in};
 
 use crate::event::{Event, HeldBy, LaunchRefused};
+use crate::grid::Grid;
 use crate::machine::Core;
 use crate::needed::held_in;
-use crate::refusal::{holder, is_going, reads_of, vertex_blocks};
+use crate::refusal::{holder, is_going, reads_of};
 use nemo_base::{Read, TaskId, Why};
 use nemo_value::{List, NoMemory};
 use std::alloc::Global;
@@ -16,12 +17,7 @@ use std::alloc::Global;
 impl Core {
     /// The launch of a task on a slot, with the right number and names, or the answer that `step` would refuse it
     /// with.
-    pub fn launch_event(
-        &self,
-        alloc: Global,
-        task: TaskId,
-        slot: u32,
-    ) -> Result<Event, LaunchRefused>
+    pub fn launch_event(&self, task: TaskId, slot: u32) -> Result<Event, LaunchRefused>
         ensures event { IfOk result (λ event. event ≡ launch_of self.now task slot) }
         ensures allowed { OnOk result (refusal_in self.now (launch_of self.now task slot) ≡ None) }
         ensures refused { IfErr result (λ told. Tells (refusal_in self.now (launch_of self.now task slot)) told) }
@@ -29,7 +25,7 @@ impl Core {
         if let Some(why) = self.launch_refused(task, slot) {
             return Err(LaunchRefused::Refused(why));
         }
-        let Ok(reads) = self.names(alloc, task) else {
+        let Ok(reads) = self.names(task) else {
             return Err(LaunchRefused::NoMemory);
         };
         Ok(Event::Launch {
@@ -87,18 +83,18 @@ impl Core {
     }
 
     /// The attempts that hold the blocks which a task reads, in order.
-    fn names(&self, alloc: Global, task: TaskId) -> Result<List<u64>, NoMemory>
+    fn names(&self, task: TaskId) -> Result<List<u64>, NoMemory>
         ensures { IfOk result (λ names. names ≡ map holder (blocks_read self.now.graph self.now.state task)) }
     {
         let i = task.index as usize;
         let reads = reads_of(&self.graph, task.stage as usize);
-        names_of(alloc, self.blocks.as_slice(), i, reads)
+        names_of(self.alloc, &self.blocks, i, reads)
     }
 }
 
 fn names_of(
     alloc: Global,
-    blocks: &[List<Option<HeldBy>>],
+    blocks: &Grid<Option<HeldBy>>,
     i: usize,
     reads: &[Read],
 ) -> Result<List<u64>, NoMemory>
@@ -113,7 +109,7 @@ fn names_of(
 
 fn push_read(
     names: &mut List<u64>,
-    blocks: &[List<Option<HeldBy>>],
+    blocks: &Grid<Option<HeldBy>>,
     i: usize,
     read: Read,
 ) -> Result<(), NoMemory>
@@ -121,7 +117,7 @@ fn push_read(
 {
     let vertex = read.vertex as usize;
     if read.wide {
-        push_all(names, vertex_blocks(blocks, vertex))
+        push_all(names, blocks.row(vertex))
     } else {
         names.push(holder(held_in(blocks, vertex, i)))
     }

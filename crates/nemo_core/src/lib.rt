@@ -3,6 +3,7 @@
 
 mod block;
 mod event;
+mod grid;
 mod launching;
 mod machine;
 mod needed;

@@ -1,29 +1,26 @@
 ghost use Rattle.std.specs.Prelude.{◌≡◌, ◌&&◌, ◌≤◌, ◌^◌};
 ghost use Rattle.std.specs.List.{list_any};
-ghost use Rattle.nemo_core.specs.Needed as spec;
+ghost use Rattle.nemo_base.specs.Needed as spec;
 ghost use Rattle.nemo_core.specs.State.{held_in, gone_in};
 
 use crate::event::HeldBy;
+use crate::grid::Grid;
 use nemo_base::{Home, Read, StageRow, TaskGraph};
-use nemo_value::List;
 
 /// Who holds block `i` of a vertex.
-pub(crate) fn held_in(rows: &[List<Option<HeldBy>>], vertex: usize, i: usize) -> Option<HeldBy>
-    ensures { result ≡ held_in rows.now vertex i }
+pub(crate) fn held_in(blocks: &Grid<Option<HeldBy>>, vertex: usize, i: usize) -> Option<HeldBy>
+    ensures { result ≡ held_in blocks.now vertex i }
 {
-    match rows.get(vertex) {
-        Some(row) => match row.get(i) {
-            Some(held) => *held,
-            None => None,
-        },
+    match blocks.get(vertex, i) {
+        Some(held) => held,
         None => None,
     }
 }
 
-fn gone_in(rows: &[List<Option<HeldBy>>], vertex: usize, i: usize) -> bool
-    ensures { result ≡ gone_in rows.now vertex i }
+fn gone_in(blocks: &Grid<Option<HeldBy>>, vertex: usize, i: usize) -> bool
+    ensures { result ≡ gone_in blocks.now vertex i }
 {
-    held_in(rows, vertex, i).is_none()
+    held_in(blocks, vertex, i).is_none()
 }
 
 /// Whether the master keeps the blocks of a vertex.
@@ -72,136 +69,99 @@ fn ranks(stages: &[StageRow]) -> u64
 /// Whether a block of the task is gone and wanted.
 pub(crate) fn is_needed(
     graph: &TaskGraph,
-    rows: &[List<Option<HeldBy>>],
+    blocks: &Grid<Option<HeldBy>>,
     stage: usize,
     i: usize,
 ) -> bool
-    ensures { result ≡ spec.needed graph.now (gone_in rows.now) stage i }
+    ensures { result ≡ spec.needed graph.now (gone_in blocks.now) stage i }
 {
-    needed_in(graph, rows, ranks(graph.stages.as_slice()), stage, i)
+    let gaps = Gaps { graph, blocks };
+    gaps.needed_in(ranks(graph.stages.as_slice()), stage, i)
 }
 
-// The recursion of the needed tasks. Each of these functions answers for the tasks that `turns` turns reach.
+/// The gone blocks of a graph, by which tasks are needed and blocks wanted.
+#[derive(Clone, Copy)]
+struct Gaps<'a> {
+    graph: &'a TaskGraph,
+    blocks: &'a Grid<Option<HeldBy>>,
+}
 
-#[cycle(needed)]
-fn needed_in(
-    graph: &TaskGraph,
-    rows: &[List<Option<HeldBy>>],
-    turns: u64,
-    stage: usize,
-    i: usize,
-) -> bool
-    ensures { result ≡ spec.needed_in graph.now (gone_in rows.now) turns stage i }
-{
-    if turns == 0 {
-        return false;
+// Each of these answers for the tasks that `turns` turns reach.
+impl Gaps<'_> {
+    #[cycle(needed)]
+    fn needed_in(&self, turns: u64, stage: usize, i: usize) -> bool
+        ensures { result ≡ spec.needed_in self.now.graph.now (gone_in self.now.blocks.now) turns stage i }
+    {
+        if turns == 0 {
+            return false;
+        }
+        self.any_wanted(turns - 1, blocks_of(self.graph, stage), i)
     }
-    any_wanted(graph, rows, turns - 1, blocks_of(graph, stage), i)
-}
 
-#[cycle(needed)]
-fn any_wanted(
-    graph: &TaskGraph,
-    rows: &[List<Option<HeldBy>>],
-    turns: u64,
-    vertices: &[u32],
-    i: usize,
-) -> bool
-    ensures { result ≡ list_any (λ v. gone_in rows.now v i && spec.is_wanted_by graph.now (spec.needed_in graph.now (gone_in rows.now) turns) v i) vertices.now }
-{
-    for v in vertices {
-        let vertex = *v as usize;
-        if gone_in(rows, vertex, i) && is_wanted_by(graph, rows, turns, vertex, i) {
-            return true;
+    #[cycle(needed)]
+    fn any_wanted(&self, turns: u64, vertices: &[u32], i: usize) -> bool
+        ensures { result ≡ list_any (λ v. gone_in self.now.blocks.now v i && spec.is_wanted_by self.now.graph.now (spec.needed_in self.now.graph.now (gone_in self.now.blocks.now) turns) v i) vertices.now }
+    {
+        for v in vertices {
+            let vertex = *v as usize;
+            if gone_in(self.blocks, vertex, i) && self.is_wanted_by(turns, vertex, i) {
+                return true;
+            }
+        }
+        false
+    }
+
+    #[cycle(needed)]
+    fn is_wanted_by(&self, turns: u64, vertex: usize, i: usize) -> bool
+        ensures { result ≡ spec.is_wanted_by self.now.graph.now (spec.needed_in self.now.graph.now (gone_in self.now.blocks.now) turns) vertex i }
+    {
+        is_sink(self.graph, vertex) || self.is_read_by(turns, vertex, i)
+    }
+
+    #[cycle(needed)]
+    fn is_read_by(&self, turns: u64, vertex: usize, i: usize) -> bool
+        ensures { result ≡ spec.is_read_by self.now.graph.now (spec.needed_in self.now.graph.now (gone_in self.now.blocks.now) turns) vertex i }
+    {
+        for (stage, row) in self.graph.stages.as_slice().iter().enumerate() {
+            if self.stage_reads(turns, stage, row, vertex, i) {
+                return true;
+            }
+        }
+        false
+    }
+
+    #[cycle(needed)]
+    fn stage_reads(&self, turns: u64, stage: usize, row: &StageRow, vertex: usize, i: usize) -> bool
+        ensures { result ≡ list_any (spec.needs_read (spec.needed_in self.now.graph.now (gone_in self.now.blocks.now) turns stage) row.now vertex i) row.now.reads }
+    {
+        for read in row.reads.as_slice() {
+            if read.vertex as usize == vertex && self.read_needs(turns, stage, row, i, *read) {
+                return true;
+            }
+        }
+        false
+    }
+
+    #[cycle(needed)]
+    fn read_needs(&self, turns: u64, stage: usize, row: &StageRow, i: usize, read: Read) -> bool
+        ensures { result ≡ spec.readers_need (spec.needed_in self.now.graph.now (gone_in self.now.blocks.now) turns stage) row.now i read }
+    {
+        if read.wide {
+            self.any_needed(turns, stage, row.parallelism as usize)
+        } else {
+            self.needed_in(turns, stage, i)
         }
     }
-    false
-}
 
-#[cycle(needed)]
-fn is_wanted_by(
-    graph: &TaskGraph,
-    rows: &[List<Option<HeldBy>>],
-    turns: u64,
-    vertex: usize,
-    i: usize,
-) -> bool
-    ensures { result ≡ spec.is_wanted_by graph.now (spec.needed_in graph.now (gone_in rows.now) turns) vertex i }
-{
-    is_sink(graph, vertex) || is_read_by(graph, rows, turns, vertex, i)
-}
-
-#[cycle(needed)]
-fn is_read_by(
-    graph: &TaskGraph,
-    rows: &[List<Option<HeldBy>>],
-    turns: u64,
-    vertex: usize,
-    i: usize,
-) -> bool
-    ensures { result ≡ spec.is_read_by graph.now (spec.needed_in graph.now (gone_in rows.now) turns) vertex i }
-{
-    for (stage, row) in graph.stages.as_slice().iter().enumerate() {
-        if stage_reads(graph, rows, turns, stage, row, vertex, i) {
-            return true;
+    #[cycle(needed)]
+    fn any_needed(&self, turns: u64, stage: usize, count: usize) -> bool
+        ensures { result ≡ list_any (spec.needed_in self.now.graph.now (gone_in self.now.blocks.now) turns stage) (spec.below count) }
+    {
+        for i in 0..count {
+            if self.needed_in(turns, stage, i) {
+                return true;
+            }
         }
+        false
     }
-    false
-}
-
-#[cycle(needed)]
-fn stage_reads(
-    graph: &TaskGraph,
-    rows: &[List<Option<HeldBy>>],
-    turns: u64,
-    stage: usize,
-    row: &StageRow,
-    vertex: usize,
-    i: usize,
-) -> bool
-    ensures { result ≡ list_any (spec.needs_read (spec.needed_in graph.now (gone_in rows.now) turns stage) row.now vertex i) row.now.reads }
-{
-    for read in row.reads.as_slice() {
-        if read.vertex as usize == vertex && read_needs(graph, rows, turns, stage, row, i, *read) {
-            return true;
-        }
-    }
-    false
-}
-
-#[cycle(needed)]
-fn read_needs(
-    graph: &TaskGraph,
-    rows: &[List<Option<HeldBy>>],
-    turns: u64,
-    stage: usize,
-    row: &StageRow,
-    i: usize,
-    read: Read,
-) -> bool
-    ensures { result ≡ spec.readers_need (spec.needed_in graph.now (gone_in rows.now) turns stage) row.now i read }
-{
-    if read.wide {
-        any_needed(graph, rows, turns, stage, row.parallelism as usize)
-    } else {
-        needed_in(graph, rows, turns, stage, i)
-    }
-}
-
-#[cycle(needed)]
-fn any_needed(
-    graph: &TaskGraph,
-    rows: &[List<Option<HeldBy>>],
-    turns: u64,
-    stage: usize,
-    count: usize,
-) -> bool
-    ensures { result ≡ list_any (spec.needed_in graph.now (gone_in rows.now) turns stage) (spec.below count) }
-{
-    for i in 0..count {
-        if needed_in(graph, rows, turns, stage, i) {
-            return true;
-        }
-    }
-    false
 }

@@ -1,5 +1,5 @@
 ghost use Rattle.std.specs.Prelude.{◌≡◌};
-ghost use Rattle.nemo_core.specs.Needed.{below};
+ghost use Rattle.nemo_value.specs.Counted.{below};
 ghost use Rattle.nemo_core.specs.Reading.{first_of, running_at, running_in, runs_there};
 ghost use Rattle.nemo_core.specs.State.{held_at};
 
@@ -7,7 +7,7 @@ use crate::event::{HeldBy, Outcome, RunningAt};
 use crate::machine::Core;
 use crate::needed::held_in;
 use crate::row::Attempt;
-use crate::task::{running_of, task_at};
+use crate::task::{Place, running_of, task_at};
 use nemo_base::{BlockId, TaskId};
 
 impl Core {
@@ -35,11 +35,7 @@ impl Core {
     pub fn held(&self, block: BlockId) -> Option<HeldBy>
         ensures { result ≡ held_at self.now.state block.vertex block.task }
     {
-        held_in(
-            self.blocks.as_slice(),
-            block.vertex as usize,
-            block.task as usize,
-        )
+        held_in(&self.blocks, block.vertex as usize, block.task as usize)
     }
 
     /// Where an attempt runs, none exactly where it isn't running. It takes no memory.
@@ -68,11 +64,11 @@ impl Core {
     fn runs_there(&self, task: TaskId, attempt: u64) -> Option<RunningAt>
         ensures { result ≡ runs_there self.now.state attempt task.stage task.index }
     {
-        let row = task_at(
-            self.tasks.as_slice(),
-            task.stage as usize,
-            task.index as usize,
-        );
+        let place = Place {
+            stage: task.stage as usize,
+            index: task.index as usize,
+        };
+        let row = task_at(&self.tasks, place);
         running_in(self.incs.as_slice(), attempt, task, running_of(row))
     }
 }

@@ -1,16 +1,16 @@
-ghost use Rattle.std.specs.Prelude.{◌≡◌, ◌≤◌, ◌+◌, ◌&&◌, ◌==◌, true, length, take, drop, slice_get};
+ghost use Rattle.std.specs.Prelude.{◌≡◌, ◌≤◌, ◌+◌, ◌&&◌, ◌==◌, true, nat_lt, length, take, drop, slice_get};
 ghost use Rattle.std.specs.List.{list_all, flat_map};
-ghost use Rattle.nemo_base.specs.Sound.{passes};
-ghost use Rattle.nemo_core.specs.Numbered.{any_at, row_at};
+ghost use Rattle.nemo_base.specs.Places.{any_at, passes};
 ghost use Rattle.nemo_core.specs.Run.{refusal_in};
 ghost use Rattle.nemo_core.specs.State as state;
 ghost use Rattle.nemo_core.specs.Step as spec;
 
 use crate::event::{Event, HeldBy, Outcome};
+use crate::grid::Grid;
 use crate::machine::Core;
 use crate::needed::{held_in, is_needed, is_sink};
 use crate::row::CutsRow;
-use crate::task::{is_running, task_at};
+use crate::task::{Place, is_running, task_at};
 use nemo_base::{Class, Read, Settings, TaskGraph, TaskId, VertexRow, Why};
 use nemo_value::List;
 
@@ -59,25 +59,25 @@ impl Core {
         ensures { result ≡ spec.first_failing (spec.launch_conditions self.now.graph self.now.settings self.now.state task slot) }
     {
         let (stage, i) = (task.stage as usize, task.index as usize);
-        let Some(row) = task_at(self.tasks.as_slice(), stage, i) else {
+        let Some(row) = task_at(&self.tasks, Place { stage, index: i }) else {
             return Some(Why::UnknownTask);
         };
         if slot as usize >= self.incs.len() {
             return Some(Why::UnknownSlot);
         }
-        if !is_needed(&self.graph, self.blocks.as_slice(), stage, i) {
+        if !is_needed(&self.graph, &self.blocks, stage, i) {
             return Some(Why::NotNeeded);
         }
         if row.running.is_some() {
             return Some(Why::Busy);
         }
-        if !all_reads_held(self.blocks.as_slice(), i, reads_of(&self.graph, stage)) {
+        if !all_reads_held(&self.blocks, i, reads_of(&self.graph, stage)) {
             return Some(Why::Missing);
         }
         if !fits_stage(&self.graph, self.settings, stage, slot) {
             return Some(Why::WrongClass);
         }
-        if row.losses >= self.settings.loss_bound as u64 {
+        if !has_losses_left(self.settings, row.losses) {
             return Some(Why::LossesFull);
         }
         if has_open(
@@ -94,7 +94,7 @@ impl Core {
         ensures { result ≡ spec.are_holders (state.blocks_read self.now.graph self.now.state task) names.now }
     {
         let reads = reads_of(&self.graph, task.stage as usize);
-        are_named(self.blocks.as_slice(), task.index as usize, reads, names)
+        are_named(&self.blocks, task.index as usize, reads, names)
     }
 
     fn running_refusal(&self, attempt: u64) -> Option<Why>
@@ -103,7 +103,7 @@ impl Core {
         if attempt >= self.launches {
             return Some(Why::UnknownAttempt);
         }
-        if !is_running(self.tasks.as_slice(), attempt) {
+        if !is_running(&self.tasks, attempt) {
             return Some(Why::NotRunning);
         }
         None
@@ -112,7 +112,7 @@ impl Core {
     fn finish_refusal(&self) -> Option<Why>
         ensures { result ≡ spec.first_failing (spec.own_conditions self.now.graph self.now.settings self.now.state Event.Finish) }
     {
-        if lacks_any(&self.graph, self.blocks.as_slice()) {
+        if lacks_any(&self.graph, self.blocks.rows()) {
             return Some(Why::Missing);
         }
         None
@@ -144,28 +144,18 @@ fn all_held(blocks: &[Option<HeldBy>]) -> bool
     blocks.iter().all(|held| held.is_some())
 }
 
-/// The blocks of a vertex.
-pub(crate) fn vertex_blocks(blocks: &[List<Option<HeldBy>>], vertex: usize) -> &[Option<HeldBy>]
-    ensures { result.now ≡ row_at blocks.now vertex }
-{
-    match blocks.get(vertex) {
-        Some(row) => row.as_slice(),
-        None => &[],
-    }
-}
-
-fn read_held(blocks: &[List<Option<HeldBy>>], i: usize, read: Read) -> bool
+fn read_held(blocks: &Grid<Option<HeldBy>>, i: usize, read: Read) -> bool
     ensures { result ≡ state.read_held blocks.now i read }
 {
     let vertex = read.vertex as usize;
     if read.wide {
-        all_held(vertex_blocks(blocks, vertex))
+        all_held(blocks.row(vertex))
     } else {
         held_in(blocks, vertex, i).is_some()
     }
 }
 
-fn all_reads_held(blocks: &[List<Option<HeldBy>>], i: usize, reads: &[Read]) -> bool
+fn all_reads_held(blocks: &Grid<Option<HeldBy>>, i: usize, reads: &[Read]) -> bool
     ensures { result ≡ list_all (state.read_held blocks.now i) reads.now }
 {
     reads.iter().all(|read| read_held(blocks, i, *read))
@@ -188,6 +178,13 @@ fn fits_stage(graph: &TaskGraph, settings: Settings, stage: usize, slot: u32) ->
         Some(row) => fits(settings, slot, row.class),
         None => false,
     }
+}
+
+/// Whether a task may lose more often.
+fn has_losses_left(settings: Settings, losses: u64) -> bool
+    ensures { result ≡ nat_lt losses settings.loss_bound }
+{
+    losses < u64::from(settings.loss_bound)
 }
 
 fn is_decided(cuts: &[CutsRow], v: usize) -> bool
@@ -255,22 +252,22 @@ fn are_holders(blocks: &[Option<HeldBy>], names: &[u64]) -> bool
     true
 }
 
-fn are_read_holders(blocks: &[List<Option<HeldBy>>], i: usize, read: Read, names: &[u64]) -> bool
+fn are_read_holders(blocks: &Grid<Option<HeldBy>>, i: usize, read: Read, names: &[u64]) -> bool
     ensures { result ≡ spec.are_holders (state.read_in blocks.now i read) names.now }
 {
     let vertex = read.vertex as usize;
     if read.wide {
-        are_holders(vertex_blocks(blocks, vertex), names)
+        are_holders(blocks.row(vertex), names)
     } else {
         are_holders(&[held_in(blocks, vertex, i)], names)
     }
 }
 
-fn read_count(blocks: &[List<Option<HeldBy>>], i: usize, read: Read) -> usize
+fn read_count(blocks: &Grid<Option<HeldBy>>, i: usize, read: Read) -> usize
     ensures { result ≡ length (state.read_in blocks.now i read) }
 {
     if read.wide {
-        vertex_blocks(blocks, read.vertex as usize).len()
+        blocks.row(read.vertex as usize).len()
     } else {
         1
     }
@@ -284,7 +281,7 @@ fn part(names: &[u64], at: usize, count: usize) -> &[u64]
     &names[at..at + count]
 }
 
-fn are_named(blocks: &[List<Option<HeldBy>>], i: usize, reads: &[Read], names: &[u64]) -> bool
+fn are_named(blocks: &Grid<Option<HeldBy>>, i: usize, reads: &[Read], names: &[u64]) -> bool
     ensures { result ≡ spec.are_holders (flat_map (state.read_in blocks.now i) reads.now) names.now }
 {
     let mut at = 0;

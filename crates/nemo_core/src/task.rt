@@ -1,28 +1,26 @@
-ghost use Rattle.std.specs.Prelude.{◌≡◌, map};
+ghost use Rattle.std.specs.Prelude.{◌≡◌, IfSome, None, false, is_some, map, slice_get, true};
 ghost use Rattle.std.specs.List.{list_any};
-ghost use Rattle.std.specs.Option.{option_copied};
-ghost use Rattle.nemo_core.specs.Numbered.{row_at, item_at, map_at, map_rows};
-ghost use Rattle.nemo_core.specs.State.{is_number, runs};
+ghost use Rattle.nemo_base.specs.Places.{item_at, map_rows, passes};
+ghost use Rattle.nemo_core.specs.State.{runs};
 ghost use Rattle.nemo_core.specs.Step as spec;
+ghost use Rattle.nemo_core.specs.Within.{RunsOnly, runs_at};
 
+use crate::grid::Grid;
 use crate::row::{Attempt, TaskRow};
 use nemo_base::TaskId;
 use nemo_value::List;
 
-/// The tasks of a stage.
-pub(crate) fn stage_tasks(tasks: &[List<TaskRow>], stage: usize) -> &[TaskRow]
-    ensures { result.now ≡ row_at tasks.now stage }
-{
-    match tasks.get(stage) {
-        Some(rows) => rows.as_slice(),
-        None => &[],
-    }
+/// A task by its places in a grid.
+#[derive(Clone, Copy)]
+pub(crate) struct Place {
+    pub(crate) stage: usize,
+    pub(crate) index: usize,
 }
 
-pub(crate) fn task_at(tasks: &[List<TaskRow>], stage: usize, i: usize) -> Option<TaskRow>
-    ensures { result ≡ item_at tasks.now stage i }
+pub(crate) fn task_at(tasks: &Grid<TaskRow>, place: Place) -> Option<TaskRow>
+    ensures { result ≡ item_at tasks.now place.stage place.index }
 {
-    stage_tasks(tasks, stage).get(i).copied()
+    tasks.get(place.stage, place.index)
 }
 
 pub(crate) fn running_of(row: Option<TaskRow>) -> Option<Attempt>
@@ -43,76 +41,75 @@ fn runs(row: &TaskRow, attempt: u64) -> bool
     }
 }
 
-/// Whether a task of the stage runs the attempt.
-pub(crate) fn stage_runs(rows: &[TaskRow], attempt: u64) -> bool
+fn stage_runs(rows: &[TaskRow], attempt: u64) -> bool
     ensures { result ≡ list_any (runs attempt) rows.now }
 {
     rows.iter().any(|row| runs(row, attempt))
 }
 
-pub(crate) fn is_running(tasks: &[List<TaskRow>], attempt: u64) -> bool
+/// Whether a task runs the attempt.
+pub(crate) fn is_running(tasks: &Grid<TaskRow>, attempt: u64) -> bool
     ensures { result ≡ list_any (list_any (runs attempt)) tasks.now }
 {
     tasks
+        .rows()
         .iter()
         .any(|rows| stage_runs(rows.as_slice(), attempt))
 }
 
+fn find_in(rows: &[TaskRow], attempt: u64) -> Option<usize>
+    ensures there { IfSome result (λ i. passes (runs attempt) (slice_get rows.now i) ≡ true) }
+    ensures none { result ≡ None → list_any (runs attempt) rows.now ≡ false }
+{
+    for (i, row) in rows.iter().enumerate() {
+        if runs(row, attempt) {
+            return Some(i);
+        }
+    }
+    None
+}
+
+/// The task that runs the attempt.
+pub(crate) fn find(tasks: &Grid<TaskRow>, attempt: u64) -> Option<Place>
+    ensures there { IfSome result (λ p. runs_at tasks.now attempt p.stage p.index ≡ true) }
+    ensures none { result ≡ None → list_any (list_any (runs attempt)) tasks.now ≡ false }
+{
+    for (stage, rows) in tasks.rows().iter().enumerate() {
+        if let Some(index) = find_in(rows.as_slice(), attempt) {
+            return Some(Place { stage, index });
+        }
+    }
+    None
+}
+
 /// The task runs the attempt on the slot.
-pub(crate) fn launch(tasks: &mut Vec<List<TaskRow>>, attempt: u64, task: TaskId, slot: u32)
-    ensures { tasks.new.items ≡ map_rows (spec.launched attempt task slot) tasks.old.items }
+pub(crate) fn launch(tasks: &mut Grid<TaskRow>, attempt: u64, task: TaskId, slot: u32)
+    requires { is_some (item_at tasks.old task.stage task.index) ≡ true }
+    ensures { tasks.new ≡ map_rows (spec.launched attempt task slot) tasks.old }
 {
-    for stage in 0..tasks.len() {
-        launch_in(&mut tasks[stage], stage, attempt, task, slot);
-    }
-}
-
-fn launch_in(rows: &mut List<TaskRow>, stage: usize, attempt: u64, task: TaskId, slot: u32)
-    ensures { rows.new ≡ map_at (spec.launched attempt task slot stage) 0 rows.old }
-{
-    for i in 0..rows.len() {
-        let row = launched(rows.as_slice()[i], stage, i, attempt, task, slot);
-        rows.set(i, row);
-    }
-}
-
-fn launched(row: TaskRow, stage: usize, i: usize, attempt: u64, task: TaskId, slot: u32) -> TaskRow
-    ensures { result ≡ spec.launched attempt task slot stage i row }
-{
-    if stage != task.stage as usize || i != task.index as usize {
-        return row;
-    }
-    TaskRow {
+    let (stage, index) = (task.stage as usize, task.index as usize);
+    let Some(row) = tasks.get(stage, index) else {
+        unreachable!();
+    };
+    let running = TaskRow {
         running: Some(Attempt {
             number: attempt,
             slot,
         }),
         losses: row.losses,
-    }
+    };
+    tasks.set(stage, index, running);
 }
 
-/// The task that runs the attempt becomes idle.
-pub(crate) fn end(tasks: &mut Vec<List<TaskRow>>, attempt: u64)
-    ensures { tasks.new.items ≡ map (map (spec.ended attempt)) tasks.old.items }
+/// The one task that runs the attempt becomes idle.
+pub(crate) fn end(tasks: &mut Grid<TaskRow>, place: Place, attempt: u64)
+    requires { RunsOnly tasks.old attempt place.stage place.index }
+    ensures { tasks.new ≡ map (map (spec.ended attempt)) tasks.old }
 {
-    for stage in 0..tasks.len() {
-        end_in(&mut tasks[stage], attempt);
-    }
-}
-
-fn end_in(rows: &mut List<TaskRow>, attempt: u64)
-    ensures { rows.new ≡ map (spec.ended attempt) rows.old }
-{
-    for i in 0..rows.len() {
-        let row = ended(rows.as_slice()[i], attempt);
-        rows.set(i, row);
-    }
-}
-
-fn ended(row: TaskRow, attempt: u64) -> TaskRow
-    ensures { result ≡ spec.ended attempt row }
-{
-    if runs(&row, attempt) { idle(row) } else { row }
+    let Some(row) = task_at(tasks, place) else {
+        unreachable!();
+    };
+    tasks.set(place.stage, place.index, idle(row));
 }
 
 fn idle(row: TaskRow) -> TaskRow
@@ -125,28 +122,25 @@ fn idle(row: TaskRow) -> TaskRow
 }
 
 /// All tasks become idle.
-pub(crate) fn end_all(tasks: &mut Vec<List<TaskRow>>)
-    ensures { tasks.new.items ≡ map (map spec.idle) tasks.old.items }
+pub(crate) fn end_all(tasks: &mut Grid<TaskRow>)
+    ensures { tasks.new ≡ map (map spec.idle) tasks.old }
 {
-    for stage in 0..tasks.len() {
-        end_all_in(&mut tasks[stage]);
+    end_rows(&mut tasks.rows);
+}
+
+fn end_rows(rows: &mut Vec<List<TaskRow>>)
+    ensures { rows.new.items ≡ map (map spec.idle) rows.old.items }
+{
+    for stage in 0..rows.len() {
+        end_in(&mut rows[stage]);
     }
 }
 
-fn end_all_in(rows: &mut List<TaskRow>)
+fn end_in(rows: &mut List<TaskRow>)
     ensures { rows.new ≡ map spec.idle rows.old }
 {
     for i in 0..rows.len() {
         let row = idle(rows.as_slice()[i]);
         rows.set(i, row);
-    }
-}
-
-/// A stage of which a task runs the attempt is sealed.
-pub(crate) fn seal(sealed: &mut Vec<bool>, tasks: &[List<TaskRow>], attempt: u64)
-    ensures { sealed.new.items ≡ map_at (spec.sealed_by tasks.now attempt) 0 sealed.old.items }
-{
-    for stage in 0..sealed.len() {
-        sealed[stage] = sealed[stage] || stage_runs(stage_tasks(tasks, stage), attempt);
     }
 }

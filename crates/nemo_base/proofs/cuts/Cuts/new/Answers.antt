@@ -40,8 +40,11 @@ loop-place-preserved c =
 pub invariant_of-result : goal.invariant_of-result
 invariant_of-result c =
     let i = c.loop-place.place in
-    let end : i ≡ length c.args.list.now = omega (arith, c.loop-place-test.false, c.loop-place.auto.place-end) in
-    subst (AreCuts c.loop-place.places) end (are_cuts i c.loop-place.places c.loop-place.invariant.few c.loop-place.invariant.room c.loop-place.invariant.zeros)
+    let list = c.args.list.now in
+    let end : i ≡ length list = omega (arith, c.loop-place-test.false, c.loop-place.auto.place-end) in
+    let whole = c.loop-place.invariant.so_far ∙ ap (λ n. take n list) end ∙ take-length list in
+    let good = ap (bad_cut 0 0) whole ∙ c.loop-place.invariant.good ∙ ap (λ n. bad_cut i c.loop-place.before (drop n list)) end ∙ ap (bad_cut i c.loop-place.before) (drop-length list) in
+    subst (AreCuts c.loop-place.places) end (are_cuts i c.loop-place.places c.loop-place.invariant.few c.loop-place.invariant.room c.loop-place.invariant.zeros good)
 
 pub returns-clause-ok : goal.returns-clause-ok
 returns-clause-ok c =
