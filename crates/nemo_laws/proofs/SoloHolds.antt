@@ -3,10 +3,10 @@ use Rattle.std.proofs.Common.{arith, ◌≡◌, ◌∙◌, ap, sym, subst, ℕ, 
 use Rattle.std.specs.List.{flat_map, list_all}
 use Rattle.std.proofs.Math.ListN.{length-replicate}
 use Rattle.std.proofs.lemmas.Bool.{lt-leb}
-use Rattle.nemo_base.specs.Sound.{passes}
+use Rattle.nemo_base.specs.Places.{passes}
 use Rattle.nemo_base.specs.declared.settings.Settings.{Settings}
 use Rattle.nemo_ir.specs.Along.{below, counted}
-use Rattle.nemo_core.specs.Numbered.{or_else}
+use Rattle.nemo_base.specs.Places.{or_else}
 use Rattle.nemo_core.specs.Reading.{first_of}
 use Rattle.nemo_core.specs.Run.{run_on}
 use Rattle.nemo_core.specs.State.{State, start}

@@ -1,7 +1,7 @@
 -- Which logs are made of holds: what one call of the master adds to a log.
 use Rattle.std.specs.Prelude.{◌≡◌, ◌⊎◌, ◌<◌, ℕ, ◌==◌, ◌&&◌, not, Bool, true, false, List, [], ◌∷◌, ◌++◌, length, filter, slice_get, is_none, Option, Some, None, if◌then◌else◌}
 use Rattle.std.specs.List.{flat_map, list_all}
-use Rattle.nemo_base.specs.Sound.{passes}
+use Rattle.nemo_base.specs.Places.{passes}
 use Rattle.nemo_base.specs.declared.graph.TaskGraph.{TaskGraph}
 use Rattle.nemo_base.specs.declared.id.TaskId.{TaskId}
 use Rattle.nemo_base.specs.declared.script.Action.{Action}

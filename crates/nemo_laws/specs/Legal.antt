@@ -4,13 +4,14 @@ use Rattle.std.specs.List.{flat_map}
 use Rattle.std.specs.Ordering.{ordering_then}
 use Rattle.std.specs.declared.cmp.Ordering.{Ordering}
 use Rattle.nemo_value.specs.Ascending.{ascending}
-use Rattle.nemo_value.specs.Bucket.{bucket_of}
 use Rattle.nemo_value.specs.KindOrder.{kind_cmp}
 use Rattle.nemo_value.specs.Order.{record_cmp}
+use Rattle.nemo_base.specs.LeastCuts.{IsLeastCuts}
+use Rattle.nemo_base.specs.Samples.{counts_of, sampled}
 use Rattle.nemo_base.specs.declared.graph.VertexRow.{VertexRow}
 use Rattle.nemo_base.specs.declared.settings.Settings.{Settings}
 use Rattle.nemo_transform.specs.Brought.{Arisen, all_faults}
-use Rattle.nemo_transform.specs.Gives.{Row, key}
+use Rattle.nemo_transform.specs.Gives.{Row}
 use Rattle.nemo_ir.specs.Along.{below}
 use Rattle.nemo_ir.specs.Nodes.{origin}
 use Rattle.nemo_core.specs.State.{State, held_at, holder, start}
@@ -19,7 +20,7 @@ use Rattle.nemo_core.specs.declared.event.Event.{Event}
 use Rattle.nemo_core.specs.declared.event.Event.TheVariants.{Commit, Decide, Fault}
 use Rattle.nemo_plan.specs.Form.{PlanForm, graph}
 use Rattle.nemo_laws.specs.Data.{Given, gives_nothing, with_attempt}
-use Rattle.nemo_laws.specs.LeastCuts.{IsLeastCuts}
+
 
 abbrev pub all_vertices : PlanForm → List ℕ
 all_vertices p = below (length p.dag.vertices)
@@ -41,17 +42,9 @@ pub record FirstFault (p : PlanForm) (gives : Given) (fault : Arisen ℕ) : Type
   pub is : slice_get (ascending by_kind (gives vertex).faults) 0 ≡ Some fault
   pub named : fault.vertex ≡ origin p.dag vertex
 
--- from number k on, the rows whose number is a multiple of the step
-abbrev pub sampled : ℕ → ℕ → List Row → List Row
-sampled step k [] = []
-sampled step k (r ∷ rows) = if k % step == 0 then r ∷ sampled step (k + 1) rows else sampled step (k + 1) rows
-
 -- the sample of a Trigger's blocks, as they are held
 abbrev pub trigger_sample : Settings → State → List Given → ℕ → ℕ → List Row
 trigger_sample k s given u tasks = flat_map (λ j. sampled k.sample 0 (given_by given (holder (held_at s u j)) u).rows) (below tasks)
-
-abbrev pub counts_of : List Row → List ℕ
-counts_of rows = map (λ b. count_by (λ r. bucket_of (key r) == b) rows) (below 256)
 
 abbrev pub row_tasks : Option VertexRow → ℕ
 row_tasks (Some row) = row.parallelism

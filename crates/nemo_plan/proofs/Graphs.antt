@@ -3,7 +3,7 @@ use Rattle.std.proofs.Common.{arith, ◌≡◌, ◌∙◌, ap, sym, refl, ℕ, z
 use Rattle.std.proofs.lemmas.Bool.{and_right, ne_eqb, cases_lt}
 use Rattle.std.proofs.lemmas.Option.{slice_get_within}
 use Rattle.std.specs.List.{filter_map, list_any}
-use Rattle.nemo_base.specs.Numbered.{map_at}
+use Rattle.nemo_base.specs.Places.{map_at}
 use Rattle.nemo_base.specs.declared.annotation.Class.TheVariants.{Transient}
 use Rattle.nemo_base.specs.declared.graph.Home.TheVariants.{Master, Local}
 use Rattle.nemo_ir.specs.Along.{below, passes}

@@ -9,7 +9,7 @@ use Rattle.nemo_base.specs.declared.graph.Read.{Read}
 use Rattle.nemo_base.specs.declared.graph.StageRow.{StageRow}
 use Rattle.nemo_base.specs.declared.graph.TaskGraph.{TaskGraph}
 use Rattle.nemo_base.specs.declared.graph.VertexRow.{VertexRow}
-use Rattle.nemo_base.specs.Numbered.{map_at}
+use Rattle.nemo_base.specs.Places.{map_at}
 use Rattle.nemo_transform.specs.declared.transform.Transform.{Transform}
 use Rattle.nemo_ir.specs.Along.{below, passes}
 use Rattle.nemo_ir.specs.Flat.{FlatForm, is_sink}

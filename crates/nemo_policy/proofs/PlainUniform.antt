@@ -6,7 +6,7 @@ use Rattle.std.proofs.lemmas.Option.{slice_get-map, slice_get_within}
 use Rattle.std.specs.Cmp.{first_so, second_so}
 use Rattle.std.specs.Cmp.Derive.{both_true}
 use Rattle.std.specs.List.{list_all, list_any}
-use Rattle.nemo_base.specs.Numbered.{map_at}
+use Rattle.nemo_base.specs.Places.{map_at}
 use Rattle.nemo_base.specs.declared.annotation.Class.TheVariants.{Transient}
 use Rattle.nemo_base.specs.declared.annotation.Pattern.{Pattern}
 use Rattle.nemo_transform.specs.Ports.{PortKind, Main, Keyed, Side, is_keyed, is_main, kinds_of}
