@@ -114,6 +114,7 @@ plan_kept flat dag f line valid h stages graph cut is =
     let p = line_plan flat dag f line valid h in
     let lists : stage_lists flat dag ≡ below (length dag.vertices) ∷ [] = ap (λ n. map (vertices_of (stages_of flat dag)) (below n)) p.one_stage ∙ ap (λ vs. vs ∷ []) p.vertices_are in
     record {
+      job = f;
       valid = valid;
       cut = cut ∙ sym lists;
       is = is ∙ sym p.graph_is;

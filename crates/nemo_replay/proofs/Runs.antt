@@ -1,5 +1,5 @@
 -- The whole run on one thread: its start, its end, and its sinks.
-use Rattle.std.proofs.Common.{arith, ◌≡◌, ◌∙◌, ap, sym, subst, refl, ℕ, suc, ◌+◌, ◌-◌, ◌<◌, ◌≤◌, List, [], ◌∷◌, length, map, slice_get, IfOk, OnOk, Option, Some, None, Ok, Err, Result}
+use Rattle.std.proofs.Common.{arith, ◌≡◌, ◌∙◌, ap, sym, subst, suc, ◌-◌, ◌≤◌, List, [], ◌∷◌, length, map, IfOk, OnOk, Some, None, Ok, Err, Result}
 use Rattle.std.specs.Prelude.{IsSome, is_some, option_and_then, option_map}
 use Rattle.std.specs.List.{flat_map}
 use Rattle.nemo_base.specs.declared.settings.Settings.{Settings}
@@ -14,7 +14,6 @@ use Rattle.nemo_value.proofs.SortedLists.{sorted_alike}
 use Rattle.nemo_transform.specs.Gives.{Row}
 use Rattle.nemo_ir.specs.Along.{below}
 use Rattle.nemo_ir.specs.Flat.{sink_name, transform_of}
-use Rattle.nemo_ir.specs.Value.{value}
 use Rattle.nemo_ir.proofs.Places.{got, same_item}
 use Rattle.nemo_job.specs.Sinks.{by_name}
 use Rattle.nemo_flat.specs.Meaning.{flat_faults, flat_rows}

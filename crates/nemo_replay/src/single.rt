@@ -103,11 +103,7 @@ fn run_on(
 }
 
 /// The sink that the last vertex is, with its rows in order.
-fn end_sink(
-    alloc: Global,
-    flat: &FlatJob,
-    rows: Vec<Record>,
-) -> Result<List<SinkRows>, NoMemory>
+fn end_sink(alloc: Global, flat: &FlatJob, rows: Vec<Record>) -> Result<List<SinkRows>, NoMemory>
     requires { IsSome (end_name flat.now) }
     ensures { IfOk result (λ sinks. Some sinks ≡ one_sink flat.now rows.items) }
 {
