@@ -6,7 +6,8 @@ use Rattle.std.specs.List.Sorted.{IsStrictlySortedBy}
 use Rattle.std.specs.Map.{lookup}
 use Rattle.std.specs.Option.{option_map}
 use Rattle.std.specs.Ordering.{is_eq}
-use Rattle.std.proofs.lemmas.List.{append-nil}
+use Rattle.std.proofs.lemmas.List.{append-nil, map-append}
+use Rattle.std.proofs.lemmas.List.Concat.{flat_map-append}
 use Rattle.nemo_value.specs.Ascending.{ascending}
 use Rattle.std.proofs.lemmas.List.Elements.{filter_map-append}
 use Rattle.nemo_value.specs.Order.{field_cmp}
@@ -15,7 +16,7 @@ use Rattle.nemo_value.specs.declared.field.Field.{Field}
 use Rattle.nemo_value.proofs.AscendingLists.{Rises}
 use Rattle.nemo_transform.specs.Folds.{KnownGroup, known, known_group, folding_of, with_read, why, size, start_of}
 use Rattle.nemo_transform.specs.FirstField.{with_first}
-use Rattle.nemo_transform.specs.Gives.{Row, keyless, read, answers, rows_in, fault_in, own_faults}
+use Rattle.nemo_transform.specs.Gives.{Row, keyless, read, answers, row_in, rows_in, fault_in, own_faults}
 use Rattle.nemo_value.specs.Key.{first_key}
 use Rattle.nemo_transform.specs.Groups.{goods, read_at, made, group_of, fault_read, fault_of, at_key, key_of, seen, answer_at}
 use Rattle.nemo_transform.specs.FaultOrder.{fault_cmp}
@@ -129,3 +130,20 @@ module _ (by : Folding) (field : ℕ) (rows : List Row) (es : List (Bor Field ×
   all_faults none bad all z b a =
       ap (ascending fault_cmp) (a ∙ (λ j. (b ∙ ap (λ l. l ++ filter_map (fault_of by field) rows) z) j ++ filter_map fault_in (flat_map answer_at (all_seen j))))
       ∙ faults_from_groups by field rows keyed
+
+---- the answers of the keys, one entry after another
+
+module _ (es : List (Bor Field × Group)) (i : ℕ) (e : Bor Field × Group) (within : i < length es) (is : e ≡ get_or es i e) where
+  one_more : flat_map answer_at (map seen (take (i + 1) es)) ≡ flat_map answer_at (map seen (take i es)) ++ answer_at (seen e)
+  one_more =
+      ap (λ l. flat_map answer_at (map seen l)) (take_item es i e within is) ∙ ap (flat_map answer_at) (map-append seen (take i es) (e ∷ [])) ∙ flat_map-append answer_at (map seen (take i es)) (seen e ∷ [])
+      ∙ ap (λ l. flat_map answer_at (map seen (take i es)) ++ l) (append-nil (answer_at (seen e)))
+
+  pub given_more : (rows after : List Row) → after ≡ rows ++ rows_in (answer_at (seen e)) → rows ≡ rows_in (flat_map answer_at (map seen (take i es))) → after ≡ rows_in (flat_map answer_at (map seen (take (i + 1) es)))
+  given_more rows after a h = a ∙ ap (λ l. l ++ rows_in (answer_at (seen e))) h ∙ sym (ap rows_in one_more ∙ filter_map-append row_in (flat_map answer_at (map seen (take i es))) (answer_at (seen e)))
+
+  pub faults_more : (before fs after : List Fault) → after ≡ fs ++ filter_map fault_in (answer_at (seen e)) → fs ≡ before ++ filter_map fault_in (flat_map answer_at (map seen (take i es)))
+      → after ≡ before ++ filter_map fault_in (flat_map answer_at (map seen (take (i + 1) es)))
+  faults_more before fs after a h =
+      a ∙ ap (λ l. l ++ filter_map fault_in (answer_at (seen e))) h ∙ append_assoc before (filter_map fault_in (flat_map answer_at (map seen (take i es)))) (filter_map fault_in (answer_at (seen e)))
+      ∙ ap (λ l. before ++ l) (sym (ap (filter_map fault_in) one_more ∙ filter_map-append fault_in (flat_map answer_at (map seen (take i es))) (answer_at (seen e))))

@@ -54,7 +54,7 @@ pub(crate) fn reduced(
     let mut faults = Vec::new(alloc);
     let groups = groups_of(alloc, by, field, rows, &mut faults)?;
     let entries = in_key_order(alloc, groups)?;
-    let given = rows_of(alloc, entries, &mut faults)?;
+    let given = rows_of(alloc, &entries, &mut faults)?;
     Applied::new(alloc, given, faults)
 }
 
@@ -102,21 +102,36 @@ fn in_key_order<'a>(
 /// Of each key without bad rows the key and the value of its fold. The faults of sums go behind others.
 fn rows_of(
     alloc: Global,
-    entries: Vec<(&Field, Group<'_>)>,
+    entries: &[(&Field, Group<'_>)],
     faults: &mut Vec<Fault>,
 ) -> Result<List<Record>, NoMemory>
-    ensures rows { IfOk result (λ rows. rows ≡ rows_in (flat_map answer_at (map seen entries.entry.items))) }
-    ensures faults { OnOk result (faults.new.items ≡ faults.old.items ++ filter_map fault_in (flat_map answer_at (map seen entries.entry.items))) }
+    ensures rows { IfOk result (λ rows. rows ≡ rows_in (flat_map answer_at (map seen entries.now))) }
+    ensures faults { OnOk result (faults.new.items ≡ faults.old.items ++ filter_map fault_in (flat_map answer_at (map seen entries.now))) }
 {
     let mut given = List::with_capacity(alloc, entries.len())?;
-    for (key, group) in entries {
-        match answer_of(alloc, key, group)? {
-            Some(Ok(row)) => given.push(row)?,
-            Some(Err(fault)) => faults.push(fault)?,
-            None => {}
-        }
+    for entry in entries {
+        push_answer(alloc, entry.0, entry.1, &mut given, faults)?;
     }
     Ok(given)
+}
+
+/// Puts the row or the fault of a key behind others.
+fn push_answer(
+    alloc: Global,
+    key: &Field,
+    group: Group<'_>,
+    rows: &mut List<Record>,
+    faults: &mut Vec<Fault>,
+) -> Result<(), NoMemory>
+    ensures rows { OnOk result (rows.new ≡ rows.old ++ rows_in (answer_at (key.now, known_group group.entry))) }
+    ensures faults { OnOk result (faults.new.items ≡ faults.old.items ++ filter_map fault_in (answer_at (key.now, known_group group.entry))) }
+{
+    match answer_of(alloc, key, group)? {
+        Some(Ok(row)) => rows.push(row)?,
+        Some(Err(fault)) => faults.push(fault)?,
+        None => {}
+    }
+    Ok(())
 }
 
 /// The row or the fault of a key, but for the faults of its bad rows.

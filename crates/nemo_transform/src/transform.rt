@@ -157,28 +157,64 @@ impl Same for Transform {
     fn same(&self, other: &Transform) -> bool {
         match self {
             Transform::Source { rows: a } => {
-                matches!(other, Transform::Source { rows: b } if a.same(b))
+                if let Transform::Source { rows: b } = other {
+                    a.same(b)
+                } else {
+                    false
+                }
             }
-            Transform::Map { out: a } => matches!(other, Transform::Map { out: b } if a.same(b)),
+            Transform::Map { out: a } => {
+                if let Transform::Map { out: b } = other {
+                    a.same(b)
+                } else {
+                    false
+                }
+            }
             Transform::Filter { cond: a } => {
-                matches!(other, Transform::Filter { cond: b } if a.same(b))
+                if let Transform::Filter { cond: b } = other {
+                    a.same(b)
+                } else {
+                    false
+                }
             }
-            Transform::Emit { outs: a } =>
-                matches!(other, Transform::Emit { outs: b } if a.same(b)),
+            Transform::Emit { outs: a } => {
+                if let Transform::Emit { outs: b } = other {
+                    a.same(b)
+                } else {
+                    false
+                }
+            }
             Transform::Words { field: a } => {
-                matches!(other, Transform::Words { field: b } if a == b)
+                if let Transform::Words { field: b } = other {
+                    a == b
+                } else {
+                    false
+                }
             }
             Transform::Union { ports: a } => {
-                matches!(other, Transform::Union { ports: b } if a == b)
+                if let Transform::Union { ports: b } = other {
+                    a == b
+                } else {
+                    false
+                }
             }
             Transform::Reduce { by: a, field: i } => {
-                matches!(other, Transform::Reduce { by: b, field: j } if a == b && i == j)
+                if let Transform::Reduce { by: b, field: j } = other {
+                    a == b && i == j
+                } else {
+                    false
+                }
             }
             Transform::Distinct => matches!(other, Transform::Distinct),
             Transform::Join => matches!(other, Transform::Join),
             Transform::SideJoin => matches!(other, Transform::SideJoin),
-            Transform::Sink { name: a } =>
-                matches!(other, Transform::Sink { name: b } if a.same(b)),
+            Transform::Sink { name: a } => {
+                if let Transform::Sink { name: b } = other {
+                    a.same(b)
+                } else {
+                    false
+                }
+            }
         }
     }
 }
