@@ -29,7 +29,7 @@ pub trait Source {
 }
 
 /// Why `read_to_end` gives no content.
-#[derive(Clone, Copy, Debug, PartialEq, Eq)]
+#[derive(Clone, Copy, Debug)]
 pub enum ReadRefused {
     /// The source failed.
     Failed,

@@ -57,7 +57,7 @@ impl Source for SureSource {
 }
 
 /// A sink that takes each piece whole, keeps nothing and tells nothing.
-#[derive(Clone, Copy, Debug)]
+#[derive(Clone, Copy)]
 pub struct SureSink;
 
 impl Sink for SureSink {

@@ -1,5 +1,5 @@
 -- Different kinds have different words.
-use Rattle.std.proofs.Common.{◌≡◌, ◌∙◌, ap, sym, refl, ℕ, List, [], ◌∷◌, ◌==◌, Option, Some, None}
+use Rattle.std.proofs.Common.{◌≡◌, ◌∙◌, ap, sym, refl, ℕ, List, [], ◌∷◌, ◌==◌, Some}
 use Rattle.std.specs.Prelude.{◌↔◌, if◌then◌else◌}
 use Rattle.nemo_value.specs.Words.{kind_word}
 use Rattle.nemo_value.specs.declared.expr.Kind.{Kind}

@@ -2,6 +2,7 @@ pub mod Along
 pub mod Answers
 pub mod Ascending
 pub mod Bucket
+pub mod Copies
 pub mod Counted
 pub mod FieldOrder
 pub mod Key

@@ -1,5 +1,5 @@
 -- The value of an expression on a record, or its fault.
-use Rattle.std.specs.Prelude.{ℕ, zero, ◌^◌, ℤ, pos, negsuc, ◌+ℤ◌, ◌-ℤ◌, ◌*ℤ◌, int_div, int_rem, List, length, slice_get, Bool, true, false, nat_lt, if◌then◌else◌, Option, Some, None, Result, Ok, Err}
+use Rattle.std.specs.Prelude.{ℕ, zero, ◌^◌, ℤ, pos, negsuc, ◌+ℤ◌, ◌-ℤ◌, ◌*ℤ◌, int_div, int_rem, List, length, slice_get, Bool, true, false, not, nat_lt, if◌then◌else◌, Option, Some, None, Result, Ok, Err}
 use Rattle.std.specs.Ordering.{is_lt, is_eq}
 use Rattle.nemo_value.specs.Order.{field_cmp}
 use Rattle.nemo_value.specs.Texts.{joined}
@@ -72,11 +72,20 @@ on_both o (Err k) y = Err k
 on_both o (Ok x) (Err k) = Err k
 on_both o (Ok x) (Ok y) = on_fields o x y
 
--- the first where the test isn't 0, and else the second
+-- whether a test is a number other than 0
+abbrev pub holds : Field → Result Bool Kind
+holds (Int z) = Ok (not (is_zero z))
+holds (Text t) = Err Typed
+
+abbrev pub picked : Result Bool Kind → Result Field Kind → Result Field Kind → Result Field Kind
+picked (Err k) x y = Err k
+picked (Ok true) x y = x
+picked (Ok false) x y = y
+
+-- the first where the test holds, and else the second
 abbrev pub chosen : Result Field Kind → Result Field Kind → Result Field Kind → Result Field Kind
 chosen (Err k) x y = Err k
-chosen (Ok (Text t)) x y = Err Typed
-chosen (Ok (Int z)) x y = if is_zero z then y else x
+chosen (Ok test) x y = picked (holds test) x y
 
 abbrev pub length_of : Result Field Kind → Result Field Kind
 length_of (Err k) = Err k

@@ -1,6 +1,9 @@
-ghost use Rattle.std.specs.Prelude.{◌≡◌};
+ghost use Rattle.std.specs.Prelude.{◌≡◌, ℤ, Ok, FitsSigned, slice_get};
+ghost use Rattle.std.specs.Cow.{cow_value};
+ghost use Rattle.std.specs.Int.{w64};
+ghost use Rattle.std.specs.Option.{SomeIff};
 ghost use Rattle.nemo_value.specs.Answers.{Gives, Lends};
-ghost use Rattle.nemo_value.specs.Val.{val, on_fields, joining, whole};
+ghost use Rattle.nemo_value.specs.Val.{val, joining, field_or, quotient_of, rest_of, whole};
 ghost use Rattle.nemo_value.specs.Val as spec;
 
 use crate::expr::{Expr, Kind, Oper};
@@ -12,7 +15,7 @@ use std::alloc::Global;
 use std::borrow::Cow;
 
 /// Why an expression has no value: a fault of its own, or want of memory.
-#[derive(Clone, Copy, Debug, PartialEq, Eq)]
+#[derive(Clone, Copy)]
 pub enum EvalFault {
     Fault(Kind),
     NoMemory,
@@ -20,7 +23,10 @@ pub enum EvalFault {
 
 impl From<NoMemory> for EvalFault {
     ghost use Rattle.nemo_value.specs.declared.evaluate.EvalFault.TheVariants.{NoMemory};
-    ghost use Rattle.std.specs.Prelude.{◌≡◌};
+    ghost use Rattle.std.specs.Prelude.{◌≡◌, ℤ, Ok, FitsSigned, slice_get};
+    ghost use Rattle.std.specs.Cow.{cow_value};
+    ghost use Rattle.std.specs.Int.{w64};
+    ghost use Rattle.std.specs.Option.{SomeIff};
 
     ghost from_gives = { λ _ e. e ≡ NoMemory };
 
@@ -45,36 +51,72 @@ fn value<'a>(alloc: Global, expr: &'a Expr, row: &'a Record) -> Result<Cow<'a, F
     ensures { Lends result (val expr.now row.now) }
 {
     match expr {
-        Expr::Get(place) => match row.get(*place) {
-            Some(field) => Ok(Cow::Borrowed(field)),
-            None => Err(EvalFault::Fault(Kind::NoField)),
-        },
+        Expr::Get(place) => field_at(row, *place),
         Expr::Const(field) => Ok(Cow::Borrowed(field)),
         Expr::Pair(oper, a, b) => {
             let x = value(alloc, a.get(), row)?;
             let y = value(alloc, b.get(), row)?;
-            Ok(Cow::Owned(on_both(alloc, *oper, &x, &y)?))
+            on_both(alloc, *oper, x, y)
         }
-        Expr::If(test, a, b) => match *value(alloc, test.get(), row)? {
-            Field::Text(_) => Err(EvalFault::Fault(Kind::Typed)),
-            Field::Int(0) => value(alloc, b.get(), row),
-            Field::Int(_) => value(alloc, a.get(), row),
-        },
-        Expr::Len(a) => match &*value(alloc, a.get(), row)? {
-            Field::Text(text) => Ok(Cow::Owned(Field::Int(text.as_str().len() as i64))),
-            Field::Int(_) => Err(EvalFault::Fault(Kind::Typed)),
-        },
+        Expr::If(test, a, b) => {
+            let chosen = if holds(value(alloc, test.get(), row)?)? {
+                a
+            } else {
+                b
+            };
+            value(alloc, chosen.get(), row)
+        }
+        Expr::Len(a) => length_of(value(alloc, a.get(), row)?),
     }
 }
 
-fn on_both(alloc: Global, oper: Oper, x: &Field, y: &Field) -> Result<Field, EvalFault>
-    ensures { Gives result (on_fields oper x.now y.now) }
+fn field_at<'a>(row: &'a Record, place: u32) -> Result<Cow<'a, Field>, EvalFault>
+    ensures { Lends result (field_or (slice_get row.now place)) }
+{
+    match row.get(place) {
+        Some(field) => Ok(Cow::Borrowed(field)),
+        None => Err(EvalFault::Fault(Kind::NoField)),
+    }
+}
+
+/// Whether a test is a number other than 0.
+fn holds(test: Cow<Field>) -> Result<bool, EvalFault>
+    ensures { Gives result (spec.holds (cow_value test.entry)) }
+{
+    match &*test {
+        Field::Int(n) => Ok(*n != 0),
+        Field::Text(_) => Err(EvalFault::Fault(Kind::Typed)),
+    }
+}
+
+fn length_of<'a>(x: Cow<Field>) -> Result<Cow<'a, Field>, EvalFault>
+    ensures { Lends result (spec.length_of (Ok (cow_value x.entry))) }
+{
+    match &*x {
+        Field::Text(text) => Ok(Cow::Owned(Field::Int(text.as_str().len() as i64))),
+        Field::Int(_) => Err(EvalFault::Fault(Kind::Typed)),
+    }
+}
+
+fn on_both<'a>(
+    alloc: Global,
+    oper: Oper,
+    x: Cow<Field>,
+    y: Cow<Field>,
+) -> Result<Cow<'a, Field>, EvalFault>
+    ensures { Lends result (spec.on_fields oper (cow_value x.entry) (cow_value y.entry)) }
+{
+    Ok(Cow::Owned(on_fields(alloc, oper, &x, &y)?))
+}
+
+fn on_fields(alloc: Global, oper: Oper, x: &Field, y: &Field) -> Result<Field, EvalFault>
+    ensures { Gives result (spec.on_fields oper x.now y.now) }
 {
     match oper {
         Oper::Less => Ok(truth(x < y)),
-        Oper::Same => Ok(truth(x.cmp(y).is_eq())),
+        Oper::Same => Ok(truth(x == y)),
         Oper::Cat => join(alloc, x, y),
-        _ => arithmetic(oper, x, y),
+        Oper::Add | Oper::Sub | Oper::Mul | Oper::Div | Oper::Rem => arithmetic(oper, x, y),
     }
 }
 
@@ -108,24 +150,42 @@ fn arithmetic(oper: Oper, x: &Field, y: &Field) -> Result<Field, EvalFault>
 fn on_numbers(oper: Oper, x: i64, y: i64) -> Result<Field, EvalFault>
     ensures { Gives result (spec.on_numbers oper x y) }
 {
-    let (x, y) = (x as i128, y as i128);
     match oper {
-        Oper::Add => number(x + y),
-        Oper::Sub => number(x - y),
-        Oper::Mul => number(x * y),
-        Oper::Div | Oper::Rem if y == 0 => Err(EvalFault::Fault(Kind::DivZero)),
-        Oper::Div => number(x / y),
-        Oper::Rem => number(x % y),
-        _ => Err(EvalFault::Fault(Kind::Typed)),
+        Oper::Add => number(x.checked_add(y)),
+        Oper::Sub => number(x.checked_sub(y)),
+        Oper::Mul => number(x.checked_mul(y)),
+        Oper::Div => quotient(x, y),
+        Oper::Rem => rest(x, y),
+        Oper::Less => Err(EvalFault::Fault(Kind::Typed)),
+        Oper::Same => Err(EvalFault::Fault(Kind::Typed)),
+        Oper::Cat => Err(EvalFault::Fault(Kind::Typed)),
     }
 }
 
-/// An exact number as a field.
-fn number(z: i128) -> Result<Field, EvalFault>
-    ensures { Gives result (whole z) }
+fn quotient(x: i64, y: i64) -> Result<Field, EvalFault>
+    ensures { Gives result (quotient_of x y) }
 {
-    match i64::try_from(z) {
-        Ok(n) => Ok(Field::Int(n)),
-        Err(_) => Err(EvalFault::Fault(Kind::Overflow)),
+    if y == 0 {
+        return Err(EvalFault::Fault(Kind::DivZero));
+    }
+    number(x.checked_div(y))
+}
+
+fn rest(x: i64, y: i64) -> Result<Field, EvalFault>
+    ensures { Gives result (rest_of x y) }
+{
+    if y == 0 {
+        return Err(EvalFault::Fault(Kind::DivZero));
+    }
+    Ok(Field::Int(x.wrapping_rem(y)))
+}
+
+/// A number that is there where it fits 64 bits, as a field.
+fn number(n: Option<i64>) -> Result<Field, EvalFault>
+    ensures { (z : ℤ) → SomeIff n (FitsSigned w64 z) z → Gives result (whole z) }
+{
+    match n {
+        Some(n) => Ok(Field::Int(n)),
+        None => Err(EvalFault::Fault(Kind::Overflow)),
     }
 }

@@ -1,4 +1,6 @@
 ghost use Rattle.std.specs.Prelude.{◌≡◌, ◌↔◌, Some};
+ghost use Rattle.nemo_value.specs.declared.expr.Expr.TheVariants.{Pair, If, Len};
+ghost use Rattle.nemo_value.specs.Copies.{IsCopy};
 ghost use Rattle.nemo_value.specs.Words.{kind_word};
 
 use crate::field::Field;
@@ -9,7 +11,7 @@ use sqlite_items::Boxed;
 use std::alloc::Global;
 
 /// An operator of two operands. `Same` answers whether they are equal, and `Cat` joins two texts.
-#[derive(Clone, Copy, Debug, PartialEq, Eq)]
+#[derive(Clone, Copy, PartialEq)]
 pub enum Oper {
     Add,
     Sub,
@@ -23,7 +25,7 @@ pub enum Oper {
 
 /// An expression over a record: a field by its place from 0, a constant, an operator of two operands, a choice
 /// (the second operand where the first isn't 0, else the third), or the number of bytes of a text.
-#[derive(Debug, Drop)]
+#[derive(Drop)]
 pub enum Expr {
     Get(u32),
     Const(Field),
@@ -34,7 +36,7 @@ pub enum Expr {
 
 /// Why an expression has no value, or a transform no row: a zero divisor, a number beyond 64 bits, an operand of
 /// the wrong type, a field that isn't there, too many fields, too many bytes. The kinds are ordered as they stand.
-#[derive(Clone, Copy, Debug, PartialEq, Eq, PartialOrd, Ord)]
+#[derive(Clone, Copy, PartialEq, Eq, PartialOrd, Ord)]
 pub enum Kind {
     DivZero,
     Overflow,
@@ -88,19 +90,60 @@ impl TryCopy for Expr {
             Expr::Get(place) => Ok(Expr::Get(*place)),
             Expr::Const(field) => Ok(Expr::Const(field.copy(alloc)?)),
             Expr::Pair(oper, a, b) => {
-                let first = Boxed::new(alloc, a.get().copy(alloc)?)?;
-                let second = Boxed::new(alloc, b.get().copy(alloc)?)?;
-                Ok(Expr::Pair(*oper, first, second))
+                pair(*oper, both(alloc, a.get().copy(alloc), b.get().copy(alloc)))
             }
-            Expr::If(test, a, b) => {
-                let test = Boxed::new(alloc, test.get().copy(alloc)?)?;
-                let first = Boxed::new(alloc, a.get().copy(alloc)?)?;
-                let second = Boxed::new(alloc, b.get().copy(alloc)?)?;
-                Ok(Expr::If(test, first, second))
-            }
-            Expr::Len(a) => Ok(Expr::Len(Boxed::new(alloc, a.get().copy(alloc)?)?)),
+            Expr::If(test, a, b) => choice(
+                boxed(alloc, test.get().copy(alloc)),
+                both(alloc, a.get().copy(alloc), b.get().copy(alloc)),
+            ),
+            Expr::Len(a) => length(boxed(alloc, a.get().copy(alloc))),
         }
     }
+}
+
+/// The copy of an operand, in its box.
+fn boxed(alloc: Global, copy: Result<Expr, NoMemory>) -> Result<Boxed<Expr>, NoMemory>
+    ensures { (x : Expr) → IsCopy copy x → IsCopy result x }
+{
+    Ok(Boxed::new(alloc, copy?)?)
+}
+
+/// The copies of two operands, each in its box.
+fn both(
+    alloc: Global,
+    first: Result<Expr, NoMemory>,
+    second: Result<Expr, NoMemory>,
+) -> Result<(Boxed<Expr>, Boxed<Expr>), NoMemory>
+    ensures { (x y : Expr) → IsCopy first x → IsCopy second y → IsCopy result (x, y) }
+{
+    let first = Boxed::new(alloc, first?)?;
+    Ok((first, Boxed::new(alloc, second?)?))
+}
+
+fn pair(
+    oper: Oper,
+    operands: Result<(Boxed<Expr>, Boxed<Expr>), NoMemory>,
+) -> Result<Expr, NoMemory>
+    ensures { (x y : Expr) → IsCopy operands (x, y) → IsCopy result (Pair oper x y) }
+{
+    let (first, second) = operands?;
+    Ok(Expr::Pair(oper, first, second))
+}
+
+fn choice(
+    test: Result<Boxed<Expr>, NoMemory>,
+    operands: Result<(Boxed<Expr>, Boxed<Expr>), NoMemory>,
+) -> Result<Expr, NoMemory>
+    ensures { (t x y : Expr) → IsCopy test t → IsCopy operands (x, y) → IsCopy result (If t x y) }
+{
+    let (first, second) = operands?;
+    Ok(Expr::If(test?, first, second))
+}
+
+fn length(text: Result<Boxed<Expr>, NoMemory>) -> Result<Expr, NoMemory>
+    ensures { (x : Expr) → IsCopy text x → IsCopy result (Len x) }
+{
+    Ok(Expr::Len(text?))
 }
 
 impl Same for Oper {

@@ -7,7 +7,7 @@ use std::cmp::Ordering;
 use std::hash::Hash;
 
 /// A whole number or a text. Numbers stand before texts, numbers by value, texts by bytes.
-#[derive(Debug, Hash, Drop)]
+#[derive(Hash, Drop)]
 pub enum Field {
     Int(i64),
     Text(Text),

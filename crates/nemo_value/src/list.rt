@@ -15,7 +15,7 @@ use std::ops::DerefSlice;
 use std::slice;
 
 /// A `Vec` that contracts see as the list of its items, so that equal lists are one value.
-#[derive(Debug, Drop)]
+#[derive(Drop)]
 pub struct List<T> {
     items: Vec<T>,
 }

@@ -3,7 +3,7 @@ use std::error::Error;
 use std::fmt;
 
 /// No memory was left. A call that answers it has changed nothing, unless its entry says otherwise.
-#[derive(Clone, Copy, Debug, PartialEq, Eq)]
+#[derive(Clone, Copy, Debug)]
 pub struct NoMemory;
 
 impl fmt::Display for NoMemory {

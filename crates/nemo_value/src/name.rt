@@ -12,8 +12,8 @@ use std::marker::Model;
 /// The most bytes of a name.
 pub const MAX_NAME: usize = 64;
 
-/// A name of 1 to 64 ASCII letters, digits, `_` and `-`. Contracts see its bytes. Names are ordered by their bytes.
-#[derive(Debug, PartialEq, Eq, PartialOrd, Ord, Drop)]
+/// A name of 1 to 64 ASCII letters, digits, `_` and `-`. Contracts see its bytes.
+#[derive(Drop)]
 pub struct Name {
     inner: Text,
 }
@@ -27,12 +27,10 @@ impl Model for Name {
     ghost view = { λ n. n.inner };
 
     ghost invariant = { λ n. is_name n.inner ≡ true };
-
-    ghost inverse = { λ bytes. record { inner = bytes } };
 }
 
 /// A string is no name. `place` is that of the first byte that no name has there: 0 where the string is empty, and at most 64.
-#[derive(Clone, Copy, Debug, PartialEq, Eq)]
+#[derive(Clone, Copy)]
 pub struct NameRefused {
     pub place: u64,
 }

@@ -17,7 +17,7 @@ use std::marker::Model;
 pub const MAX_FIELDS: usize = 16;
 
 /// A record of 1 to 16 fields. Contracts see the list of its fields.
-#[derive(Debug, PartialEq, Eq, PartialOrd, Hash, Drop)]
+#[derive(PartialEq, Eq, PartialOrd, Hash, Drop)]
 pub struct Record {
     inner: List<Field>,
 }
@@ -36,7 +36,7 @@ impl Model for Record {
 }
 
 /// A record can't have `count` fields.
-#[derive(Clone, Copy, Debug, PartialEq, Eq)]
+#[derive(Clone, Copy)]
 pub struct BadWidth {
     pub count: u64,
 }
@@ -132,7 +132,7 @@ impl Ord for Record {
 }
 
 /// The rows of a sink, by its name.
-#[derive(Debug, Drop)]
+#[derive(Drop)]
 pub struct SinkRows {
     pub name: Name,
     pub rows: List<Record>,

@@ -18,14 +18,14 @@ pub const MAX_TEXT: usize = 65_535;
 const SHORT: usize = 16;
 
 /// Where the bytes of a text are: in the value itself, or behind a pointer.
-#[derive(Debug, Drop)]
+#[derive(Drop)]
 enum Bytes {
     Short(ArrayString<16>),
     Long(String),
 }
 
 /// A text of at most 65,535 bytes; one of at most 16 takes no memory. Contracts see its bytes.
-#[derive(Debug, Drop)]
+#[derive(Drop)]
 pub struct Text {
     inner: Bytes,
 }
@@ -42,7 +42,7 @@ impl Model for Text {
 }
 
 /// A text has `count` bytes, which are too many.
-#[derive(Clone, Copy, Debug, PartialEq, Eq)]
+#[derive(Clone, Copy)]
 pub struct LongText {
     pub count: u64,
 }
