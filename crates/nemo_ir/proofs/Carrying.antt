@@ -1,5 +1,5 @@
 -- The tasks of a vertex stand for the flat vertices whose Op it passes on, or is.
-use Rattle.std.proofs.Common.{arith, ◌≡◌, ◌∙◌, ap, sym, subst, refl, ℕ, zero, suc, ◌+◌, ◌<◌, List, [], ◌∷◌, map, length, slice_get, true, Some}
+use Rattle.std.proofs.Common.{arith, ◌≡◌, ◌∙◌, ap, sym, subst, refl, ℕ, zero, suc, ◌<◌, List, [], ◌∷◌, map, length, slice_get, true, Some}
 use Rattle.std.specs.List.{list_all}
 use Rattle.std.specs.Cmp.{second_so}
 use Rattle.std.proofs.lemmas.Option.{slice_get_within}
@@ -10,7 +10,7 @@ use Rattle.nemo_transform.specs.declared.shape.PortKind.TheVariants.{Main}
 use Rattle.nemo_transform.specs.Tasks.{AllBrought, IsBrought, IsParted, at_task}
 use Rattle.nemo_ir.specs.Flat.{FlatForm, IsFlat, is_input}
 use Rattle.nemo_ir.specs.Nodes.{Deed, Feed, Node, Passes, deed_of, edge_at, feed_of, feeds_from, is_utility, kinds_in, nodes, origin, rep_of, resolve}
-use Rattle.nemo_ir.specs.Part.{Parts, brought, dealt_to, done_by}
+use Rattle.nemo_ir.specs.Part.{Parts, brought, dealt_to, done_by, task_of}
 use Rattle.nemo_ir.specs.Rewrites.{IsAssignment, called}
 use Rattle.nemo_ir.specs.Valid.{Valid, is_one_to_one}
 use Rattle.nemo_ir.specs.Value.{ByNumber, at_or_nothing, value}
@@ -19,8 +19,8 @@ use Rattle.nemo_ir.specs.declared.dag.IrVertex.{IrVertex}
 use Rattle.nemo_ir.specs.declared.dag.VertexKind.{VertexKind}
 use Rattle.nemo_ir.specs.declared.dag.VertexKind.TheVariants.{Op, Relay, Trigger}
 use Rattle.nemo_ir.specs.declared.flat.FlatVertex.{FlatVertex}
-use Rattle.nemo_ir.proofs.Dealing.{key_within}
-use Rattle.nemo_ir.proofs.EdgesBring.{edge_brings, key_task}
+use Rattle.nemo_ir.proofs.Dealing.{keys_meet, row_within}
+use Rattle.nemo_ir.proofs.EdgesBring.{edge_brings}
 use Rattle.nemo_ir.proofs.Places.{got}
 use Rattle.nemo_ir.proofs.Reps.{are_inputs, first_low, represented}
 use Rattle.nemo_ir.proofs.Sources.{op_parted}
@@ -59,19 +59,19 @@ module _ (flat : FlatForm) (dag : IrDag) (fine : IsFlat flat) (valid : Valid fla
 
   -- an in-edge of vertex v
   edge : (v : ℕ) (node : Node) (k : PortKind) (f : Feed) (x : ℕ) → ((w : ℕ) → w < v → Carries w) → slice_get all v ≡ Some node → Serves all v node k f
-      → x < length flat.vertices → rep_of dag x ≡ resolve dag f.from → IsBrought (called dag) (key_task (cuts v)) node.parallelism k (feed_brings flat dag cuts v node.parallelism f) (value flat x)
+      → x < length flat.vertices → rep_of dag x ≡ resolve dag f.from → IsBrought (called dag) (task_of (cuts v)) node.parallelism k (feed_brings flat dag cuts v node.parallelism f) (value flat x)
   edge v node k f x before g serves inside r =
       let y = got flat.vertices x inside in
       let stands : Stands f.from x = before f.from serves.low serves.from x y.0 serves.there y.1 r in
       let level : is_one_to_one f.pattern ≡ true → (tasks f.from).parallelism ≡ node.parallelism =
       λ o. tasks_are flat dag cuts f.from serves.from serves.there ∙ serves.level o in
-      subst (λ p. IsBrought (called dag) (key_task (cuts v)) node.parallelism k (brought (cuts v) node.parallelism p f.pattern) (value flat x)) (sym (parts_before flat dag cuts v f.from serves.low))
+      subst (λ p. IsBrought (called dag) (task_of (cuts v)) node.parallelism k (brought (cuts v) node.parallelism p f.pattern) (value flat x)) (sym (parts_before flat dag cuts v f.from serves.low))
       (edge_brings (called dag) (cuts v) node.parallelism (few_cuts v node g) (tasks f.from) (value flat x) stands k f.pattern serves.taken level)
 
   -- all in-edges, where the Ops that are found along them stand for the inputs of x
   edges : (v : ℕ) (node : Node) (x : ℕ) → ((w : ℕ) → w < v → Carries w) → slice_get all v ≡ Some node → x < length flat.vertices
       → (ks : List PortKind) (fs : List Feed) (zs : List ℕ) → AllServe all v node ks fs → list_all (is_input flat x) zs ≡ true → map (λ f. resolve dag f.from) fs ≡ map (rep_of dag) zs
-      → AllBrought (called dag) (key_task (cuts v)) node.parallelism ks (map (feed_brings flat dag cuts v node.parallelism) fs) (inputs_bring flat x zs)
+      → AllBrought (called dag) (λ p. task_of (cuts v)) node.parallelism ks (map (feed_brings flat dag cuts v node.parallelism) fs) (inputs_bring flat x zs)
   edges v node x before g inside [] [] [] s l e = tt
   edges v node x before g inside [] [] (z ∷ zs) s l e = cc
   edges v node x before g inside [] (f ∷ fs) zs s l e = absurd s
@@ -80,7 +80,7 @@ module _ (flat : FlatForm) (dag : IrDag) (fine : IsFlat flat) (valid : Valid fla
   edges v node x before g inside (k ∷ ks) (f ∷ fs) (z ∷ zs) s l e =
       let same = heads_same (resolve dag f.from) (rep_of dag z) (map (λ (f : Feed). resolve dag f.from) fs) (map (rep_of dag) zs) e in
       let low : z < x = first_low flat x z zs l in (
-        subst (IsBrought (called dag) (key_task (cuts v)) node.parallelism k (feed_brings flat dag cuts v node.parallelism f)) (sym (value_before flat x z low))
+        subst (IsBrought (called dag) (task_of (cuts v)) node.parallelism k (feed_brings flat dag cuts v node.parallelism f)) (sym (value_before flat x z low))
             (edge v node k f z before g s.0 (omega arith) (sym same.0)),
         edges v node x before g inside ks fs zs s.1 (second_so (is_input flat x z) (list_all (is_input flat x) zs) l) same.1,
       )
@@ -104,7 +104,7 @@ module _ (flat : FlatForm) (dag : IrDag) (fine : IsFlat flat) (valid : Valid fla
       ∙ ap (λ d. done_by (origin dag v) n i d (at_task gots i)) rep.deed
       ∙ ap (λ w. at (origin dag w) (dealt_to n i t) (at_task gots i)) (sym r))
       (value_at flat x y g ∙ ap (λ o. at_or_nothing x o wholes) rep.is)
-      (op_parted (called dag) (key_task (cuts v)) n wires.some (key_within (cuts v) n (few_cuts v node there)) x t gots wholes bring)
+      (op_parted (called dag) (λ p. task_of (cuts v)) n wires.some (λ p. row_within (cuts v) n (few_cuts v node there)) x t (keys_meet (cuts v) t) gots wholes bring)
 
   -- a utility vertex passes on what its producer stands for
   passed_on : (v : ℕ) (u : IrVertex) (node : Node) (x : ℕ) (y : FlatVertex) → ((w : ℕ) → w < v → Carries w) → slice_get all v ≡ Some node → slice_get dag.vertices v ≡ Some u

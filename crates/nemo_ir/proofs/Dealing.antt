@@ -1,17 +1,19 @@
 -- What is dealt out to tasks.
-use Rattle.std.proofs.Common.{arith, refl, sym, ℕ, suc, ◌+◌, ◌<◌, ◌≤◌, ◌==◌, List, [], ◌∷◌, ◌++◌, Bool, true, false, cond, length}
+use Rattle.std.proofs.Common.{arith, refl, sym, ap, ◌∙◌, ◌≡◌, Some, ℕ, suc, ◌+◌, ◌<◌, ◌≤◌, ◌==◌, List, [], ◌∷◌, ◌++◌, Bool, true, false, cond, length}
 use Rattle.std.specs.Prelude.{◌%◌, nat_le}
 use Rattle.std.specs.List.{flat_map}
 use Rattle.nemo_value.proofs.JoinedLists.{flat_none, flat_same}
 use Rattle.nemo_value.proofs.Perm.{Perm, back, then}
 use Rattle.nemo_value.proofs.Permuted.{apart, both, is, right}
 use Rattle.nemo_value.proofs.Split.{in_front, single}
-use Rattle.nemo_value.specs.Bucket.{bucket_of}
+use Rattle.nemo_value.specs.Key.{bucket_or_first, first_key, key_by, row_bucket}
 use Rattle.nemo_value.specs.declared.field.Field.{Field}
 use Rattle.nemo_transform.specs.Gives.{Row}
+use Rattle.nemo_transform.specs.Laws.{MeetByKey}
+use Rattle.nemo_transform.specs.declared.transform.Transform.{Transform}
 use Rattle.nemo_ir.specs.Along.{below}
 use Rattle.nemo_base.specs.Cuts.{task_at}
-use Rattle.nemo_ir.specs.Part.{dealt}
+use Rattle.nemo_ir.specs.Part.{dealt, task_of}
 
 -- row by row, or column by column
 pub crossed : {A B C : Type 0} (f : A → B → List C) (xs : List A) (ys : List B) → Perm (flat_map (λ x. flat_map (f x) ys) xs) (flat_map (λ y. flat_map (λ x. f x y) xs) ys)
@@ -35,6 +37,13 @@ task_within : (cuts : List ℕ) (bucket : ℕ) → task_at cuts bucket ≤ lengt
 task_within [] bucket = omega arith
 task_within (c ∷ cuts) bucket = task_cond (nat_le c bucket) (task_at cuts bucket) (length cuts) (task_within cuts bucket)
 
--- each key goes to one of the tasks
-pub key_within : (cuts : List ℕ) (n : ℕ) → length cuts < n → (k : Field) → task_at cuts (bucket_of k) < n
-key_within cuts n few k = let l : task_at cuts (bucket_of k) ≤ length cuts = task_within cuts (bucket_of k) in omega arith
+-- each row goes to one of the tasks by its key
+pub row_within : (cuts : List ℕ) (n : ℕ) → length cuts < n → (r : Row) → task_of cuts r < n
+row_within cuts n few r = let l : task_of cuts r ≤ length cuts = task_within cuts (row_bucket first_key r) in omega arith
+
+-- rows of equal keys go to one task
+same_task : (cuts : List ℕ) (r s : Row) (k : List Field) → key_by first_key r ≡ Some k → key_by first_key s ≡ Some k → task_of cuts r ≡ task_of cuts s
+same_task cuts r s k e f = ap (λ o. task_at cuts (bucket_or_first o)) (e ∙ sym f)
+
+pub keys_meet : (cuts : List ℕ) (t : Transform) → MeetByKey t (task_of cuts) (task_of cuts)
+keys_meet cuts t = record { first = same_task cuts; second = same_task cuts; both = same_task cuts }

@@ -3,29 +3,21 @@ use Rattle.std.proofs.Common.{arith, ◌≡◌, refl, sym, subst, ℕ, zero, suc
 use Rattle.std.specs.List.{flat_map}
 use Rattle.nemo_base.specs.declared.annotation.Pattern.{Pattern}
 use Rattle.nemo_base.specs.declared.annotation.Pattern.TheVariants.{OneToOne, Broadcast, Hash, Spread}
-use Rattle.nemo_value.specs.Bucket.{bucket_of}
 use Rattle.nemo_value.specs.Counted.{below, counted}
 use Rattle.nemo_value.specs.Members.{SameMembers}
-use Rattle.nemo_value.specs.declared.field.Field.{Field}
 use Rattle.nemo_value.proofs.JoinedLists.{flat_over_map}
 use Rattle.nemo_value.proofs.MemberLists.{same_each}
 use Rattle.nemo_value.proofs.Perm.{Perm, from_std, then, to_std}
 use Rattle.nemo_value.proofs.Permuted.{alike, is, passing}
 use Rattle.nemo_value.proofs.Split.{split}
 use Rattle.nemo_transform.specs.Brought.{all_faults, all_rows}
-use Rattle.nemo_transform.specs.Gives.{key}
 use Rattle.nemo_transform.specs.declared.shape.PortKind.{PortKind}
 use Rattle.nemo_transform.specs.declared.shape.PortKind.TheVariants.{Keyed, Main, Side}
 use Rattle.nemo_transform.specs.Tasks.{IsBrought, IsParted, renamed}
-use Rattle.nemo_base.specs.Cuts.{task_at}
 use Rattle.nemo_ir.specs.Part.{Parts, all_tasks, brought, dealt, task_of}
 use Rattle.nemo_ir.specs.Valid.{is_one_to_one, takes}
 use Rattle.nemo_ir.specs.Value.{ByNumber}
-use Rattle.nemo_ir.proofs.Dealing.{crossed, dealt_from, key_within}
-
--- the task of a key, by cuts
-abbrev pub key_task : List ℕ → Field → ℕ
-key_task cuts k = task_at cuts (bucket_of k)
+use Rattle.nemo_ir.proofs.Dealing.{crossed, dealt_from, row_within}
 
 module _ (name : ℕ → ℕ) (cuts : List ℕ) (n : ℕ) (few : length cuts < n) (p : Parts) (whole : ByNumber) (stands : IsParted name p.parallelism p.task whole) where
   rows_are : Perm (flat_map (λ j. (p.task j).rows) (below p.parallelism)) whole.rows
@@ -45,10 +37,10 @@ module _ (name : ℕ → ℕ) (cuts : List ℕ) (n : ℕ) (few : length cuts < n
       go (suc m) l = same_each (λ i. all_faults (all_tasks p)) (map (renamed name) whole.faults) 0 (counted 1 m) (λ i. all_faults_are)
 
   -- by its pattern, as the kind of its port wants
-  pub edge_brings : (k : PortKind) (pattern : Pattern) → takes k pattern ≡ true → (is_one_to_one pattern ≡ true → p.parallelism ≡ n) → IsBrought name (key_task cuts) n k (brought cuts n p pattern) whole
+  pub edge_brings : (k : PortKind) (pattern : Pattern) → takes k pattern ≡ true → (is_one_to_one pattern ≡ true → p.parallelism ≡ n) → IsBrought name (task_of cuts) n k (brought cuts n p pattern) whole
   edge_brings Main OneToOne h level = subst (λ m. IsParted name m p.task whole) (level refl) stands
   edge_brings Main Hash h level = record {
-    rows = to_std (then (split (task_of cuts) n (all_rows (all_tasks p)) (λ r m. key_within cuts n few (key r))) all_rows_are);
+    rows = to_std (then (split (task_of cuts) n (all_rows (all_tasks p)) (λ r m. row_within cuts n few r)) all_rows_are);
     faults = each_has;
   }
   edge_brings Main Spread h level = record {

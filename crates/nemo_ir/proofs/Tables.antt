@@ -7,7 +7,6 @@ use Rattle.std.proofs.lemmas.List.Elements.{filter-append}
 use Rattle.nemo_ir.specs.Along.{counted, below}
 use Rattle.nemo_ir.specs.Nodes.{edge_at}
 use Rattle.nemo_ir.specs.Index.{changed, changed_where, edge_lists, edges_at, end_of, with_edge}
-use Rattle.nemo_ir.specs.declared.dag.IrDag.{IrDag}
 use Rattle.nemo_ir.specs.declared.dag.IrEdge.{IrEdge}
 use Rattle.nemo_ir.specs.declared.index.End.{End}
 

@@ -1,9 +1,4 @@
 -- Lists made entry by entry.
-use Rattle.std.specs.Prelude.{List, [], ◌∷◌, ◌++◌}
 pub use Rattle.nemo_base.specs.Sound.{all_at, passes}
+pub use Rattle.nemo_value.specs.Along.{along}
 pub use Rattle.nemo_value.specs.Counted.{counted, below}
-
--- a list of entries, each made of those before it
-abbrev pub along : {V A : Type 0} → (List A → V → A) → List A → List V → List A
-along step done [] = done
-along step done (v ∷ vs) = along step (done ++ step done v ∷ []) vs

@@ -4,9 +4,9 @@ use Rattle.std.specs.List.{flat_map}
 use Rattle.nemo_base.specs.Cuts.{task_at}
 use Rattle.nemo_base.specs.declared.annotation.Pattern.{Pattern}
 use Rattle.nemo_base.specs.declared.annotation.Pattern.TheVariants.{OneToOne, Broadcast, Hash, Spread}
-use Rattle.nemo_value.specs.Bucket.{bucket_of}
+use Rattle.nemo_value.specs.Key.{first_key, row_bucket}
 use Rattle.nemo_transform.specs.Brought.{nothing, port, all_rows, all_faults, at}
-use Rattle.nemo_transform.specs.Gives.{Row, key}
+use Rattle.nemo_transform.specs.Gives.{Row}
 use Rattle.nemo_transform.specs.declared.transform.Transform.{Transform}
 use Rattle.nemo_transform.specs.declared.transform.Transform.TheVariants.{Source}
 use Rattle.nemo_ir.specs.Along.{along, below}
@@ -34,7 +34,7 @@ dealt n i k (r ∷ rows) = if k % n == i then r ∷ dealt n i (k + 1) rows else 
 
 -- the task on which the bucket of a row's key lies
 abbrev pub task_of : List ℕ → Row → ℕ
-task_of cuts r = task_at cuts (bucket_of (key r))
+task_of cuts r = task_at cuts (row_bucket first_key r)
 
 -- what task i of n gets along an edge, by the consumer's cuts
 abbrev pub brought : List ℕ → ℕ → Parts → Pattern → ℕ → ByNumber

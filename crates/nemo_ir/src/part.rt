@@ -2,7 +2,7 @@ ghost use Rattle.std.specs.Prelude.{◌≡◌, ◌≤◌, ◌<◌, ◌==◌, IfO
 ghost use Rattle.nemo_ir.specs.Part.{dealt, task_of};
 
 use nemo_base::Cuts;
-use nemo_value::{NoMemory, Record, TryCopy, bucket_of};
+use nemo_value::{NoMemory, Record, TryCopy};
 use std::alloc::Global;
 
 /// The rows of a source that go to a task: row k goes to the task whose number is k modulo the number of tasks, which
@@ -38,7 +38,7 @@ pub fn hash_part(
 {
     let mut part = Vec::new(alloc);
     for row in rows {
-        if cuts.task_of(bucket_of(row.key())) == task {
+        if cuts.task_of(row.bucket()) == task {
             part.push(row.copy(alloc)?)?;
         }
     }
