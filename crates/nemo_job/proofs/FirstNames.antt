@@ -1,16 +1,13 @@
 -- No name comes twice where each is the first of its own.
-use Rattle.std.proofs.Common.{arith, ◌≡◌, ◌∙◌, ap, sym, refl, ℕ, ◌+◌, ◌<◌, ◌≤◌, List, [], ◌∷◌, ◌++◌, Bool, true, false, ◌&&◌, ◌||◌, not, length, get_or, map, drop, Option, append_assoc, length-append}
-use Rattle.std.proofs.lemmas.List.{append-nil, drop_all, drop_more, get_or-map, length-map}
+use Rattle.std.proofs.Common.{◌≡◌, ◌∙◌, ap, sym, refl, ℕ, ◌+◌, ◌<◌, ◌≤◌, List, [], ◌∷◌, ◌++◌, Bool, true, false, ◌&&◌, ◌||◌, not, length, get_or, map, drop, Option, append_assoc, length-append}
+use Rattle.std.proofs.lemmas.List.{drop_all, drop_more}
 use Rattle.std.specs.Cmp.Lexicographic.{nat_list_eq_equiv}
 use Rattle.std.specs.List.{list_any}
 use Rattle.nemo_value.specs.Texts.{same_text, all_new}
-use Rattle.nemo_job.specs.Chain.{names_of}
 use Rattle.nemo_job.specs.Refusals.{has_name}
-use Rattle.nemo_job.specs.Sites.{Face, faces, port_face, standing}
+use Rattle.nemo_job.specs.Sites.{Face, port_face}
 use Rattle.nemo_job.specs.Walks.{first_named, is_before}
 use Rattle.nemo_job.specs.declared.scope.Named.{Named}
-use Rattle.nemo_job.specs.declared.vertex.JobVertex.{JobVertex}
-use Rattle.nemo_job.proofs.Aligned.{vertex_face}
 use Rattle.nemo_job.proofs.Scoping.{before_is}
 
 -- the look-up finds none of these names, counted from a place on, before its own place
