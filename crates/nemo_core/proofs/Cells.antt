@@ -12,7 +12,7 @@ use Rattle.nemo_base.specs.declared.settings.Settings.{Settings}
 use Rattle.nemo_core.specs.Cell.{filled_at, put, put_in, with_item}
 use Rattle.nemo_core.specs.State.{is_number, runs}
 use Rattle.nemo_core.specs.Step.{ended, filled, filled_row, home_of, idle, launched, made, running_of, sealed_by}
-use Rattle.nemo_core.specs.Within.{RunsOnly, runs_at}
+use Rattle.nemo_core.specs.Within.{RunsOnly}
 use Rattle.nemo_core.specs.declared.event.HeldBy.{HeldBy}
 use Rattle.nemo_core.specs.declared.row.Attempt.{Attempt}
 use Rattle.nemo_core.specs.declared.row.TaskRow.{TaskRow}

@@ -1,7 +1,7 @@
 -- A commit that touches one task is the one that the event asks for.
 use Rattle.std.proofs.Common.{arith, ◌≡◌, ◌∙◌, ap, sym, subst, refl, ℕ, ◌+◌, ◌<◌, List, map, length, slice_get, Bool, true, Option, Some, None}
 use Rattle.std.proofs.lemmas.Bool.{eqb-true}
-use Rattle.std.specs.Prelude.{◌==◌, is_some, slice_set}
+use Rattle.std.specs.Prelude.{is_some, slice_set}
 use Rattle.nemo_base.specs.Places.{item_at, map_at, passes}
 use Rattle.nemo_core.specs.Cell.{filled_at}
 use Rattle.nemo_core.specs.Run.{stepped}

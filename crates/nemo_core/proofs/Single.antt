@@ -8,7 +8,7 @@ use Rattle.std.specs.Prelude.{◌&&◌, ◌==◌}
 use Rattle.nemo_base.specs.Places.{item_at, map_at, map_rows, passes, row_at}
 use Rattle.nemo_base.specs.declared.graph.StageRow.{StageRow}
 use Rattle.nemo_base.specs.declared.id.TaskId.{TaskId}
-use Rattle.nemo_core.specs.State.{fresh_task, fresh_tasks, is_number, runs}
+use Rattle.nemo_core.specs.State.{fresh_task, fresh_tasks, runs}
 use Rattle.nemo_core.specs.Step.{ended, idle, launched}
 use Rattle.nemo_core.specs.Within.{AreSingle, IsWithin, RunsOnly, runs_at}
 use Rattle.nemo_core.specs.declared.row.TaskRow.{TaskRow}
