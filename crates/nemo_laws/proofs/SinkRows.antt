@@ -26,8 +26,9 @@ use Rattle.nemo_ir.specs.Value.{ByNumber, value}
 use Rattle.nemo_ir.specs.declared.dag.IrVertex.{IrVertex}
 use Rattle.nemo_ir.specs.declared.flat.FlatVertex.{FlatVertex}
 use Rattle.nemo_ir.proofs.Places.{from_none, last_only, same_item}
-use Rattle.nemo_job.specs.Sinks.{arisen_cmp, by_name}
-use Rattle.nemo_flat.specs.Meaning.{Reached, by_path, flat_faults, flat_rows, reached, under}
+use Rattle.nemo_job.specs.ByPlace.{place_cmp}
+use Rattle.nemo_job.specs.Sinks.{by_name, in_order}
+use Rattle.nemo_flat.specs.Meaning.{Reached, by_path, flat_arisen, flat_faults, flat_rows, reached, under}
 use Rattle.nemo_core.specs.declared.event.Event.{Event}
 use Rattle.nemo_plan.specs.Form.{PlanForm}
 use Rattle.nemo_plan.specs.Graph.{transform_in}
@@ -129,10 +130,9 @@ none_joined (x ∷ xs) e = cc
 -- where no fault reaches a sink, the last vertex has none
 pub end_clean : (p : PlanForm) (o : IsOneStage p) → flat_faults p.flat ≡ [] → (value p.flat (count p - 1)).faults ≡ []
 end_clean p o e =
-    let order = arisen_cmp (map (λ x. x.name) p.flat.vertices) in
     let all : List Reached → List (Arisen ℕ) = λ rs. flat_map (λ r. r.brought.faults) rs in
     none_joined (value p.flat (count p - 1)).faults
-    (sym (ap all (one_reached p o)) ∙ none_mapped (by_path p.flat) (all (reached p.flat)) (none_ascends order (map (by_path p.flat) (all (reached p.flat))) e))
+    (sym (ap all (one_reached p o)) ∙ none_ascends place_cmp (all (reached p.flat)) (none_mapped (by_path p.flat) (flat_arisen p.flat) e))
 
 ---- what is written
 
@@ -147,13 +147,13 @@ BlocksAre p k log = (i : ℕ) → i < tasks_in p → block_rows p k log (count p
 
 module _ (p : PlanForm) (o : IsOneStage p) (k : Settings) (log : List Event) (blocks : BlocksAre p k log) where
   abbrev end_sink : SinkRows
-  end_sink = record { name = (end_of p o).name; rows = sorted record_cmp (value p.flat (count p - 1)).rows }
+  end_sink = record { name = (end_of p o).name; rows = flat_map (block_rows p k log (count p - 1)) (below (tasks_in p)) }
 
   abbrev rows_of : ℕ → ℕ → List Row
-  rows_of v tasks = sorted record_cmp (flat_map (block_rows p k log v) (below tasks))
+  rows_of v tasks = flat_map (block_rows p k log v) (below tasks)
 
   -- the rows of all blocks in order
-  rows_are : rows_of (count p - 1) (tasks_in p) ≡ sorted record_cmp (value p.flat (count p - 1)).rows
+  rows_are : sorted record_cmp (rows_of (count p - 1) (tasks_in p)) ≡ sorted record_cmp (value p.flat (count p - 1)).rows
   rows_are =
       let some : 1 ≤ count p = (stage_plan p o).some in
       ap (sorted record_cmp) (flat_counted (block_rows p k log (count p - 1)) (λ i. (ran p (tasks_in p) i (count p - 1)).rows) 0 (tasks_in p) (λ i l. blocks i (omega arith)))
@@ -175,15 +175,15 @@ module _ (p : PlanForm) (o : IsOneStage p) (k : Settings) (log : List Event) (bl
       ap (option_map (λ name. record { name = name; rows = rows_of v u.parallelism })) is
       ∙ ap (λ n. Some (record { name = (end_of p o).name; rows = rows_of v n })) tasks
       ∙ ap (λ w. Some (record { name = (end_of p o).name; rows = rows_of w (tasks_in p) })) at_end
-      ∙ ap (λ rows. Some (record { name = (end_of p o).name; rows = rows })) rows_are
 
   -- the sink has what the flat job gives to it
   pub written_is : written p k log ≡ flat_rows p.flat
   written_is =
       let make = sink_written p k log in
       let some : 1 ≤ count p = (stage_plan p o).some in
-      ap (sorted by_name) (last_only make 0 p.dag.vertices end_sink
+      ap in_order (last_only make 0 p.dag.vertices end_sink
       (λ v u e l. ap (λ w. make w u) (from_none v) ∙ inner_written v u e l)
       (λ v u e l. ap (λ w. make w u) (from_none v) ∙ last_written v u e l)
       some)
-      ∙ sym (ap (λ rs. sorted by_name (map (λ r. record { name = r.name; rows = sorted record_cmp r.brought.rows }) rs)) (one_reached p o))
+      ∙ ap (λ rows. sorted by_name (record { name = (end_of p o).name; rows = rows } ∷ [])) rows_are
+      ∙ sym (ap (λ rs. in_order (map (λ r. record { name = r.name; rows = r.brought.rows }) rs)) (one_reached p o))

@@ -4,14 +4,12 @@ use Rattle.std.specs.List.{filter_map, flat_map, list_any}
 use Rattle.nemo_base.specs.Places.{map_at}
 use Rattle.nemo_base.specs.declared.graph.TaskGraph.{TaskGraph}
 use Rattle.nemo_base.specs.declared.settings.Settings.{Settings}
-use Rattle.nemo_value.specs.Order.{record_cmp}
-use Rattle.nemo_value.specs.Sorting.{sorted}
 use Rattle.nemo_value.specs.declared.record.SinkRows.{SinkRows}
 use Rattle.nemo_transform.specs.Gives.{Row}
 use Rattle.nemo_ir.specs.Along.{below}
 use Rattle.nemo_ir.specs.Flat.{sink_name}
 use Rattle.nemo_ir.specs.declared.dag.IrVertex.{IrVertex}
-use Rattle.nemo_job.specs.Sinks.{by_name}
+use Rattle.nemo_job.specs.Sinks.{in_order}
 use Rattle.nemo_core.specs.State.{State, held_at, holder}
 use Rattle.nemo_core.specs.Step.{after}
 use Rattle.nemo_core.specs.declared.event.Event.{Event}
@@ -63,10 +61,10 @@ FromCommits p k log =
 abbrev pub block_rows : PlanForm → Settings → List Event → ℕ → ℕ → List Row
 block_rows p k log v i = (given_by (data_of p k log) (holder (held_at (state_of (graph p) k log) v i)) v).rows
 
--- a sink with the rows of its blocks, in order
+-- a sink with the rows of its blocks
 abbrev pub sink_written : PlanForm → Settings → List Event → ℕ → IrVertex → Option SinkRows
-sink_written p k log v u = option_map (λ name. record { name = name; rows = sorted record_cmp (flat_map (block_rows p k log v) (below u.parallelism)) }) (sink_at p u)
+sink_written p k log v u = option_map (λ name. record { name = name; rows = flat_map (block_rows p k log v) (below u.parallelism) }) (sink_at p u)
 
--- the sinks by name
+-- the sinks by name, each with its rows in order
 abbrev pub written : PlanForm → Settings → List Event → List SinkRows
-written p k log = sorted by_name (filter_map (λ o. o) (map_at (sink_written p k log) 0 p.dag.vertices))
+written p k log = in_order (filter_map (λ o. o) (map_at (sink_written p k log) 0 p.dag.vertices))

@@ -15,7 +15,7 @@ use Rattle.nemo_transform.specs.Gives.{Row}
 use Rattle.nemo_ir.specs.Along.{below}
 use Rattle.nemo_ir.specs.Flat.{sink_name, transform_of}
 use Rattle.nemo_ir.proofs.Places.{got, same_item}
-use Rattle.nemo_job.specs.Sinks.{by_name}
+use Rattle.nemo_job.specs.Sinks.{in_order}
 use Rattle.nemo_flat.specs.Meaning.{flat_faults, flat_rows}
 use Rattle.nemo_core.specs.Run.{refusal_in}
 use Rattle.nemo_core.specs.State.{Machine, start_machine}
@@ -70,7 +70,7 @@ sinks_are p rows sinks o all one =
     same_item sinks (sort rows) (one ∙ ap (option_map (λ n. record { name = n; rows = sorted record_cmp rows } ∷ [])) (end_is p o))
     ∙ ap sort (all ∙ flat_same (λ i. task_rows p.flat (tasks_in p) i p.flat.vertices []) (λ i. (ran p (tasks_in p) i last).rows) (below (tasks_in p)) (λ i. rows_end p o (tasks_in p) i last at_end))
     ∙ ap (λ rs. record { name = name; rows = rs } ∷ []) (sorted_alike record_cmp record_strict (from_std _ _ (ran_rows p o last (omega arith))))
-    ∙ sym (ap (λ rs. sorted by_name (map (λ r. record { name = r.name; rows = sorted record_cmp r.brought.rows }) rs)) (one_reached p o))
+    ∙ sym (ap (λ rs. in_order (map (λ r. record { name = r.name; rows = r.brought.rows }) rs)) (one_reached p o))
 
 ---- the law of the run
 
