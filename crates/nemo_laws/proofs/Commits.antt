@@ -2,14 +2,14 @@
 use Rattle.std.proofs.Common.{arith, ◌≡◌, ◌∙◌, ap, sym, refl, ℕ, suc, ◌-◌, ◌<◌, ◌≤◌, ◌==◌, nat_lt, List, [], ◌∷◌, map, slice_get, Bool, true, false, not, ◌&&◌, ◌||◌, if◌then◌else◌, Option, Some, None, add-one, is_some, eq-eqb, ⊎_elim}
 use Rattle.std.specs.List.{list_any}
 use Rattle.std.proofs.lemmas.Bool.{lt-ltb, cases_lt, cases_Bool, eqb-true, eqb-false}
-use Rattle.nemo_base.specs.Sound.{passes}
+use Rattle.nemo_base.specs.Places.{passes}
 use Rattle.nemo_base.specs.declared.graph.Home.TheVariants.{Master}
 use Rattle.nemo_base.specs.declared.settings.Settings.{Settings}
 use Rattle.nemo_base.specs.declared.why.Why.TheVariants.{Missing}
 use Rattle.nemo_ir.specs.Along.{below}
 use Rattle.nemo_ir.proofs.Places.{list_any-at, or_true}
-use Rattle.nemo_core.specs.Needed.{is_master}
-use Rattle.nemo_core.specs.Numbered.{any_at}
+use Rattle.nemo_base.specs.Needed.{is_master}
+use Rattle.nemo_base.specs.Places.{any_at}
 use Rattle.nemo_core.specs.State.{all_held, fresh_task, runs}
 use Rattle.nemo_core.specs.Step.{after, conditions, ended, filled, filled_row, lacks_sink, made, refusal, running_of}
 use Rattle.nemo_core.specs.declared.event.Event.TheVariants.{Commit, Finish}

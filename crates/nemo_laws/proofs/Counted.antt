@@ -3,10 +3,10 @@ use Rattle.std.proofs.Common.{arith, ◌≡◌, ◌∙◌, ap, refl, ℕ, zero, 
 use Rattle.std.specs.List.{filter, list_all, range_with_len}
 use Rattle.std.specs.Cmp.Derive.{both_true}
 use Rattle.std.proofs.lemmas.Bool.{cases_order}
-use Rattle.nemo_base.specs.Numbered.{map_at}
+use Rattle.nemo_base.specs.Places.{map_at}
 use Rattle.nemo_ir.specs.Along.{below, counted}
 use Rattle.nemo_ir.proofs.Places.{or_true}
-use Rattle.nemo_core.specs.Numbered.{any_at, or_else}
+use Rattle.nemo_base.specs.Places.{any_at, or_else}
 use Rattle.nemo_core.specs.Reading.{first_of}
 
 ---- numbers

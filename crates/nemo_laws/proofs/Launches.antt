@@ -2,12 +2,12 @@
 use Rattle.std.proofs.Common.{arith, ◌≡◌, ◌∙◌, ap, refl, ℕ, suc, ◌+◌, ◌-◌, ◌<◌, ◌≤◌, nat_lt, List, [], ◌∷◌, length, map, replicate, slice_get, Bool, true, false, not, ◌&&◌, ◌||◌, if◌then◌else◌, Some, None, add-one, is_none, is_some, eq-eqb}
 use Rattle.std.proofs.lemmas.Bool.{lt-ltb, le-ltb}
 use Rattle.std.proofs.Math.ListN.{length-replicate}
-use Rattle.nemo_base.specs.Sound.{passes}
+use Rattle.nemo_base.specs.Places.{passes}
 use Rattle.nemo_base.specs.declared.annotation.Class.TheVariants.{Transient}
 use Rattle.nemo_base.specs.declared.settings.Settings.{Settings}
 use Rattle.nemo_ir.specs.Along.{below}
-use Rattle.nemo_core.specs.Needed.{is_sink, is_master, is_read_by, needed_in}
-use Rattle.nemo_core.specs.Numbered.{any_at, or_else, row_at}
+use Rattle.nemo_base.specs.Needed.{is_sink, is_master, is_read_by, needed_in}
+use Rattle.nemo_base.specs.Places.{any_at, or_else, row_at}
 use Rattle.nemo_core.specs.Reading.{first_of, launch_of, launchable, may_launch}
 use Rattle.nemo_core.specs.State.{Machine, fresh_task, task_at, held_in, flat, is_gone, is_needed}
 use Rattle.nemo_core.specs.Step.{after, conditions, fits, is_idle, is_open, launched, refusal}

@@ -1,12 +1,11 @@
-pub mod Batches
 pub mod Commits
+pub mod Computed
 pub mod Counted
-pub mod Dealt
 pub mod Launches
 pub mod Logs
 pub mod LossesKept
+pub mod OneStage
 pub mod Refusals
-pub mod Rows
 pub mod SinkRows
 pub mod Slots
 pub mod SoloCommits
@@ -16,3 +15,4 @@ pub mod SoloRuns
 pub mod States
 pub mod TaskParts
 pub mod Tasks
+pub mod Uncut

@@ -1,13 +1,13 @@
 -- What the state keeps of a task's losses is what the log costs it.
 use Rattle.std.proofs.Common.{arith, ◌≡◌, ◌∙◌, ap, sym, refl, ℕ, zero, suc, ◌+◌, ◌==◌, ◌&&◌, List, [], ◌∷◌, map, replicate, slice_get, Bool, true, false, cond, Option, Some}
-use Rattle.nemo_base.specs.Numbered.{map_at}
-use Rattle.nemo_base.specs.Sound.{passes}
+use Rattle.nemo_base.specs.Places.{map_at}
+use Rattle.nemo_base.specs.Places.{passes}
 use Rattle.nemo_base.specs.declared.graph.StageRow.{StageRow}
 use Rattle.nemo_base.specs.declared.graph.TaskGraph.{TaskGraph}
 use Rattle.nemo_base.specs.declared.id.TaskId.{TaskId}
 use Rattle.nemo_base.specs.declared.settings.Settings.{Settings}
 use Rattle.nemo_ir.proofs.Places.{from_none, next, none, same_item}
-use Rattle.nemo_core.specs.Numbered.{item_at, map_rows, row_at}
+use Rattle.nemo_base.specs.Places.{item_at, map_rows, row_at}
 use Rattle.nemo_core.specs.Run.{HasState, Reaches, loses, losses, losses_from}
 use Rattle.nemo_core.specs.State.{State, fresh_task, fresh_tasks, runs, start, task_at}
 use Rattle.nemo_core.specs.Step.{after, ended, evicted, idle, is_stage_of, is_touched, launched}

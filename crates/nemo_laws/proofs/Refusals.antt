@@ -1,6 +1,6 @@
 -- Whether an event is refused, condition by condition.
 use Rattle.std.proofs.Common.{◌≡◌, ◌∙◌, ap, refl, ℕ, zero, suc, not, slice_get, List, [], ◌∷◌, Bool, true, false, Some, None, is_none, if◌then◌else◌}
-use Rattle.nemo_base.specs.Sound.{passes}
+use Rattle.nemo_base.specs.Places.{passes}
 use Rattle.nemo_base.specs.declared.why.Why.{Why}
 use Rattle.nemo_core.specs.Step.{first_failing}
 

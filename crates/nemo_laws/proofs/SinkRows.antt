@@ -1,103 +1,138 @@
--- What a run of a one-stage plan of a chain has written: the rows of its tasks, under the name of its sink.
-use Rattle.std.proofs.Common.{arith, ◌≡◌, ◌∙◌, ap, sym, refl, ℕ, zero, suc, ◌+◌, ◌-◌, ◌<◌, ◌≤◌, List, [], ◌∷◌, ◌++◌, length, slice_get, true, false, Some, None, inl, inr}
+-- What a run of a plan of one stage has written: what its flat job gives, under the name of its sink.
+use Rattle.std.proofs.Common.{arith, ◌≡◌, ◌∙◌, ap, sym, refl, ℕ, zero, suc, ◌+◌, ◌-◌, ◌<◌, ◌≤◌, List, [], ◌∷◌, ◌++◌, length, map, slice_get, true, false, Option, Some, None, inl, inr, Ordering}
+use Rattle.std.specs.Prelude.{option_map}
 use Rattle.std.proofs.lemmas.Bool.{cases_order}
 use Rattle.std.proofs.lemmas.Option.{slice_get_within}
+use Rattle.std.specs.BTreeSet.{insert_key}
+use Rattle.std.specs.Ordering.{match_ordering}
+use Rattle.std.specs.declared.cmp.Ordering.TheVariants.{Less, Equal, Greater}
 use Rattle.std.specs.List.{flat_map}
+use Rattle.nemo_base.specs.Places.{map_at}
 use Rattle.nemo_base.specs.declared.settings.Settings.{Settings}
+use Rattle.nemo_value.specs.Ascending.{ascending}
 use Rattle.nemo_value.specs.Order.{record_cmp}
 use Rattle.nemo_value.specs.Sorting.{sorted}
 use Rattle.nemo_value.specs.declared.record.SinkRows.{SinkRows}
+use Rattle.nemo_value.proofs.Perm.{from_std}
+use Rattle.nemo_value.proofs.RecordOrder.{record_strict}
+use Rattle.nemo_value.proofs.SortedLists.{sorted_alike}
+use Rattle.nemo_transform.specs.Brought.{Arisen}
 use Rattle.nemo_transform.specs.Gives.{Row}
 use Rattle.nemo_transform.specs.declared.transform.Transform.{Transform}
 use Rattle.nemo_transform.specs.declared.transform.Transform.TheVariants.{Sink}
 use Rattle.nemo_ir.specs.Along.{below, counted}
-use Rattle.nemo_ir.specs.Flat.{is_sink}
-use Rattle.nemo_ir.specs.Nodes.{Does, deed_of, node_of, nodes_from}
-use Rattle.nemo_ir.specs.declared.dag.IrDag.{IrDag}
-use Rattle.nemo_ir.specs.declared.dag.IrEdge.{IrEdge}
+use Rattle.nemo_ir.specs.Flat.{FlatForm, is_sink, sink_name, transform_of}
+use Rattle.nemo_ir.specs.Value.{ByNumber, value}
 use Rattle.nemo_ir.specs.declared.dag.IrVertex.{IrVertex}
-use Rattle.nemo_ir.proofs.Places.{from_none, got, last_only, same_item}
-use Rattle.nemo_job.specs.Chain.{is_built}
-use Rattle.nemo_job.specs.Sinks.{job_rows}
-use Rattle.nemo_value.specs.SinkOrder.{by_name}
-use Rattle.nemo_job.specs.declared.vertex.JobVertex.{JobVertex}
-use Rattle.nemo_flat.specs.Flat.{flat_of}
-use Rattle.nemo_flat.proofs.ChainFlat.{chain_is}
+use Rattle.nemo_ir.specs.declared.flat.FlatVertex.{FlatVertex}
+use Rattle.nemo_ir.proofs.Places.{from_none, last_only, same_item}
+use Rattle.nemo_transform.specs.ArisenOrder.{place_cmp}
+use Rattle.nemo_value.specs.SinkOrder.{by_name, in_order}
+use Rattle.nemo_ir.specs.Meaning.{Reached, by_path, flat_arisen, flat_faults, flat_rows, reached, under}
 use Rattle.nemo_core.specs.declared.event.Event.{Event}
-use Rattle.nemo_plan.specs.LinePlan.{IsLinePlan, line_feeds}
-use Rattle.nemo_laws.specs.Done.{plan_of}
-use Rattle.nemo_laws.specs.Solo.{task_rows}
-use Rattle.nemo_laws.specs.Written.{block_rows, sink_at, sink_of, sink_written, under, written}
-use Rattle.nemo_laws.proofs.Rows.{job_from_tasks}
-use Rattle.nemo_laws.proofs.Tasks.{counts_of, node_at}
+use Rattle.nemo_plan.specs.Form.{PlanForm}
+use Rattle.nemo_plan.specs.Graph.{transform_in}
+use Rattle.nemo_plan.proofs.Ends.{last_sink, no_sink}
+use Rattle.nemo_laws.specs.Solo.{IsOneStage, tasks_in}
+use Rattle.nemo_laws.specs.Written.{block_rows, sink_at, sink_written, written}
+use Rattle.nemo_laws.proofs.Computed.{ran_rows}
+use Rattle.nemo_laws.proofs.OneStage.{count, stage_plan, stands}
+use Rattle.nemo_laws.proofs.Tasks.{ran}
 
----- the vertices of the DAG
+---- the sink of a line
 
--- a node is made of the vertex at its place
-from_vertex : (transforms : List Transform) (es : List IrEdge) (k : ℕ) (us : List IrVertex) (v : ℕ) (u : IrVertex) → slice_get us v ≡ Some u
-    → (w : ℕ) × (slice_get (nodes_from transforms es k us) v ≡ Some (node_of transforms es w u))
-from_vertex transforms es k [] v u e = cc
-from_vertex transforms es k (x ∷ xs) zero u e = (k, ap (λ y. Some (node_of transforms es k y)) (same_item x u e))
-from_vertex transforms es k (x ∷ xs) (suc v) u e = from_vertex transforms es (k + 1) xs v u e
+nameless : (o : Option Transform) → is_sink o ≡ false → sink_name o ≡ None
+nameless (Some (Sink name)) h = cc
+nameless (Some t) h = refl
+nameless None h = refl
 
--- vertex v of n tasks does what the transform at its place does
-pub record StandsFor (vs : List JobVertex) (m n v : ℕ) (u : IrVertex) : Type 0 where
-  pub within : v < m
-  pub transform : Transform
-  pub is : slice_get (flat_of vs).transforms v ≡ Some transform
-  pub deed : deed_of (flat_of vs).transforms u.kind ≡ Does transform
-  pub tasks : u.parallelism ≡ n
+named : (o : Option Transform) → is_sink o ≡ true → (name : List ℕ) × (o ≡ Some (Sink name))
+named (Some (Sink name)) h = (name, refl)
+named (Some t) h = cc
+named None h = cc
 
-pub stands_for : (vs : List JobVertex) (dag : IrDag) (m n : ℕ) → is_built vs ≡ true → IsLinePlan (flat_of vs) dag m n → (v : ℕ) (u : IrVertex) → slice_get dag.vertices v ≡ Some u → StandsFor vs m n v u
-stands_for vs dag m n h plan v u e =
-    let ts = (flat_of vs).transforms in
-    let inside : v < length dag.vertices = slice_get_within dag.vertices v u e in
-    let count : length dag.vertices ≡ m = plan.count in
-    let long : length ts ≡ m = (counts_of vs m h plan.flat_count).transforms in
-    let t = got ts v (omega arith) in
-    let node = from_vertex ts dag.edges 0 dag.vertices v u e in
-    let same : node_of ts dag.edges node.0 u ≡ record { deed = Does t.0; parallelism = n; feeds = line_feeds v } =
-    same_item (node_of ts dag.edges node.0 u) (record { deed = Does t.0; parallelism = n; feeds = line_feeds v }) (sym node.1 ∙ node_at vs dag m n h plan v t.0 t.1) in
-    record { within = omega arith; transform = t.0; is = t.1; deed = ap (λ d. d.deed) same; tasks = ap (λ d. d.parallelism) same }
+-- a vertex of the DAG is the sink that the flat vertex of its number is
+pub sink_is : (p : PlanForm) (o : IsOneStage p) (v : ℕ) (u : IrVertex) (l : v < count p) → slice_get p.dag.vertices v ≡ Some u → sink_at p u ≡ sink_name (transform_of p.flat (stands p o v l).copy)
+sink_is p o v u l e =
+    let s = stands p o v l in
+    ap (sink_at p) (same_item u s.op (sym e ∙ s.op_at)) ∙ ap (λ d. sink_name (transform_in d)) s.deed ∙ sym (ap sink_name s.is)
 
-no_sink : (t : Transform) → is_sink (Some t) ≡ false → sink_of (Does t) ≡ None
-no_sink (Sink name) h = cc
-no_sink _ h = refl
+-- the last vertex with its name
+pub record HasEnd (p : PlanForm) : Type 0 where
+  pub name : List ℕ
+  pub inner : (v : ℕ) (x : FlatVertex) → slice_get p.flat.vertices v ≡ Some x → suc v < count p → sink_name (transform_of p.flat x) ≡ None
+  pub last : (v : ℕ) (x : FlatVertex) → slice_get p.flat.vertices v ≡ Some x → suc v ≡ count p → transform_of p.flat x ≡ Some (Sink name)
 
-a_sink : (t : Transform) → is_sink (Some t) ≡ true → (name : List ℕ) × (t ≡ Sink name)
-a_sink (Sink name) h = (name, refl)
-a_sink _ h = cc
+pub end_of : (p : PlanForm) → IsOneStage p → HasEnd p
+end_of p o =
+    let plan = stage_plan p o in
+    let size : length p.flat.vertices ≡ count p = plan.flat_count in
+    let some : 1 ≤ count p = plan.some in
+    let at_end : suc (count p - 1) ≡ count p = omega arith in
+    let s = stands p o (count p - 1) (omega arith) in
+    let sink = named (transform_of p.flat s.copy) (last_sink p.flat o.flat o.line (count p - 1) s.copy s.copy_at (omega arith)) in
+    record {
+      name = sink.0;
+      inner = λ v x e l. nameless (transform_of p.flat x) (no_sink p.flat o.flat o.line v x e (omega arith));
+      last = λ v x e l.
+          let here : v ≡ count p - 1 = omega arith in
+          ap (transform_of p.flat) (same_item x s.copy (sym e ∙ ap (slice_get p.flat.vertices) here ∙ s.copy_at)) ∙ sink.1;
+    }
 
--- the last of the table is a sink
-pub last_sink : (vs : List JobVertex) → is_built vs ≡ true → (j : ℕ) → suc j ≡ length (flat_of vs).transforms → (name : List ℕ) × (slice_get (flat_of vs).transforms j ≡ Some (Sink name))
-last_sink vs h j last =
-    let t = got (flat_of vs).transforms j (omega arith) in
-    let s = a_sink t.0 ((chain_is vs h).row.last j t.0 t.1 last) in
-    (s.0, t.1 ∙ ap Some s.1)
-
--- only the last vertex is a sink
-pub inner_at : (vs : List JobVertex) (dag : IrDag) (m n : ℕ) → is_built vs ≡ true → IsLinePlan (flat_of vs) dag m n → (v : ℕ) (u : IrVertex) → slice_get dag.vertices v ≡ Some u → suc v < m
-    → sink_at (plan_of vs dag) u ≡ None
-inner_at vs dag m n h plan v u e l =
-    let s = stands_for vs dag m n h plan v u e in
-    let long : length (flat_of vs).transforms ≡ m = (counts_of vs m h plan.flat_count).transforms in
-    ap sink_of s.deed ∙ no_sink s.transform ((chain_is vs h).row.inner v s.transform s.is (omega arith))
-
-pub last_at : (vs : List JobVertex) (dag : IrDag) (m n : ℕ) → is_built vs ≡ true → IsLinePlan (flat_of vs) dag m n → (v : ℕ) (u : IrVertex) (name : List ℕ) → slice_get dag.vertices v ≡ Some u
-    → slice_get (flat_of vs).transforms v ≡ Some (Sink name) → sink_at (plan_of vs dag) u ≡ Some name
-last_at vs dag m n h plan v u name e is =
-    let s = stands_for vs dag m n h plan v u e in
-    ap sink_of s.deed ∙ ap (λ t. sink_of (Does t)) (same_item s.transform (Sink name) (sym s.is ∙ is))
-
-pub sink_last : (vs : List JobVertex) (dag : IrDag) (m n : ℕ) → is_built vs ≡ true → IsLinePlan (flat_of vs) dag m n → (v : ℕ) (u : IrVertex) (name : List ℕ) → slice_get dag.vertices v ≡ Some u
-    → sink_at (plan_of vs dag) u ≡ Some name → (suc v ≡ m) × (u.parallelism ≡ n)
-sink_last vs dag m n h plan v u name e is =
-    let s = stands_for vs dag m n h plan v u e in
-    let within : v < m = s.within in
-    elim (cases_order (suc v) m) [
-      | inl same ↦ (same, s.tasks)
-      | inr d ↦ elim d [ inl l ↦ absurd (let none = inner_at vs dag m n h plan v u e l in cc) | inr g ↦ absurd (omega arith) ]
+pub sink_last : (p : PlanForm) → IsOneStage p → (v : ℕ) (u : IrVertex) (name : List ℕ) → slice_get p.dag.vertices v ≡ Some u → sink_at p u ≡ Some name → (suc v ≡ count p) × (u.parallelism ≡ tasks_in p)
+sink_last p o v u name e is =
+    let l : v < count p = slice_get_within p.dag.vertices v u e in
+    let s = stands p o v l in
+    let tasks : u.parallelism ≡ tasks_in p = ap (λ w. w.parallelism) (same_item u s.op (sym e ∙ s.op_at)) ∙ s.uniform.tasks in
+    elim (cases_order (suc v) (count p)) [
+      | inl same ↦ (same, tasks)
+      | inr d ↦ elim d [ inl less ↦ absurd (let none = sym is ∙ sink_is p o v u l e ∙ (end_of p o).inner v s.copy s.copy_at less in cc) | inr g ↦ absurd (omega arith) ]
     ]
+
+---- what reaches it
+
+-- what reaches the one sink
+pub one_reached : (p : PlanForm) (o : IsOneStage p) → reached p.flat ≡ record { name = (end_of p o).name; brought = value p.flat (count p - 1) } ∷ []
+one_reached p o =
+    let flat = p.flat in
+    let size : length flat.vertices ≡ count p = (stage_plan p o).flat_count in
+    let some : 1 ≤ count p = (stage_plan p o).some in
+    let end = end_of p o in
+    let make : ℕ → FlatVertex → Option Reached = λ i x. under (value flat i) (sink_name (transform_of flat x)) in
+    last_only make 0 flat.vertices (record { name = end.name; brought = value flat (count p - 1) })
+    (λ i x e l. ap (λ j. make j x) (from_none i) ∙ ap (under (value flat i)) (end.inner i x e (omega arith)))
+    (λ i x e l.
+    let here : i ≡ count p - 1 = omega arith in
+    ap (λ j. make j x) (from_none i) ∙ ap (λ t. under (value flat i) (sink_name t)) (end.last i x e (omega arith)) ∙ ap (λ j. Some (record { name = end.name; brought = value flat j })) here)
+    (omega arith)
+
+placed_some : {X : Type 0} (R : X → X → Ordering) (l : List X) (x : X) → insert_key R l x ≡ [] → ⊥
+placed_some R [] x e = cc
+placed_some R (y ∷ ys) x e = go (R x y) e
+  where
+    go : (r : Ordering) → match_ordering r (x ∷ y ∷ ys) (y ∷ ys) (y ∷ insert_key R ys x) ≡ [] → ⊥
+    go Less h = cc
+    go Equal h = cc
+    go Greater h = cc
+
+none_ascends : {X : Type 0} (R : X → X → Ordering) (xs : List X) → ascending R xs ≡ [] → xs ≡ []
+none_ascends R [] e = refl
+none_ascends R (x ∷ xs) e = absurd (placed_some R (ascending R xs) x e)
+
+none_mapped : {X Y : Type 0} (f : X → Y) (xs : List X) → map f xs ≡ [] → xs ≡ []
+none_mapped f [] e = refl
+none_mapped f (x ∷ xs) e = cc
+
+none_joined : {X : Type 0} (xs : List X) → xs ++ [] ≡ [] → xs ≡ []
+none_joined [] e = refl
+none_joined (x ∷ xs) e = cc
+
+-- where no fault reaches a sink, the last vertex has none
+pub end_clean : (p : PlanForm) (o : IsOneStage p) → flat_faults p.flat ≡ [] → (value p.flat (count p - 1)).faults ≡ []
+end_clean p o e =
+    let all : List Reached → List (Arisen ℕ) = λ rs. flat_map (λ r. r.brought.faults) rs in
+    none_joined (value p.flat (count p - 1)).faults
+    (sym (ap all (one_reached p o)) ∙ none_ascends place_cmp (all (reached p.flat)) (none_mapped (by_path p.flat) (flat_arisen p.flat) e))
 
 ---- what is written
 
@@ -106,43 +141,49 @@ flat_counted f g k zero h = refl
 flat_counted f g k (suc c) h =
     ap (λ rows. rows ++ flat_map f (counted (suc k) c)) (h k (omega arith)) ∙ ap (λ more. g k ++ more) (flat_counted f g (suc k) c (λ i l. h i (omega arith)))
 
--- each block of the last vertex has the rows of its task
-abbrev BlocksAre : List JobVertex → IrDag → ℕ → ℕ → Settings → List Event → Type 0
-BlocksAre vs dag m n k log = (i : ℕ) → i < n → block_rows (plan_of vs dag) k log (m - 1) i ≡ task_rows n i (flat_of vs).transforms []
+-- each block of the last vertex has the rows that its task gives there
+abbrev BlocksAre : PlanForm → Settings → List Event → Type 0
+BlocksAre p k log = (i : ℕ) → i < tasks_in p → block_rows p k log (count p - 1) i ≡ (ran p (tasks_in p) i (count p - 1)).rows
 
--- what the tasks have together, in order
-abbrev task_sink : List JobVertex → ℕ → List ℕ → SinkRows
-task_sink vs n name = record { name = name; rows = sorted record_cmp (flat_map (λ i. task_rows n i (flat_of vs).transforms []) (below n)) }
+module _ (p : PlanForm) (o : IsOneStage p) (k : Settings) (log : List Event) (blocks : BlocksAre p k log) where
+  abbrev end_sink : SinkRows
+  end_sink = record { name = (end_of p o).name; rows = flat_map (block_rows p k log (count p - 1)) (below (tasks_in p)) }
 
-last_written : (vs : List JobVertex) (dag : IrDag) (m n : ℕ) → is_built vs ≡ true → IsLinePlan (flat_of vs) dag m n → (k : Settings) (log : List Event) → BlocksAre vs dag m n k log
-    → (v : ℕ) (u : IrVertex) (name : List ℕ) → slice_get dag.vertices v ≡ Some u → v ≡ m - 1 → slice_get (flat_of vs).transforms (m - 1) ≡ Some (Sink name)
-    → sink_written (plan_of vs dag) k log v u ≡ Some (task_sink vs n name)
-last_written vs dag m n h plan k log blocks v u name e here is =
-    let p = plan_of vs dag in
-    let rows : ℕ → List Row = λ i. task_rows n i (flat_of vs).transforms [] in
-    let same = flat_counted (block_rows p k log (m - 1)) rows 0 n (λ i l. blocks i (omega arith)) in
-    ap (λ o. under o (sorted record_cmp (flat_map (block_rows p k log v) (below u.parallelism)))) (last_at vs dag m n h plan v u name e (ap (slice_get (flat_of vs).transforms) here ∙ is))
-    ∙ ap (λ c. Some (record { name = name; rows = sorted record_cmp (flat_map (block_rows p k log v) (below c)) })) (stands_for vs dag m n h plan v u e).tasks
-    ∙ ap (λ w. Some (record { name = name; rows = sorted record_cmp (flat_map (block_rows p k log w) (below n)) })) here
-    ∙ ap (λ rs. Some (record { name = name; rows = sorted record_cmp rs })) same
+  abbrev rows_of : ℕ → ℕ → List Row
+  rows_of v tasks = flat_map (block_rows p k log v) (below tasks)
 
-inner_written : (vs : List JobVertex) (dag : IrDag) (m n : ℕ) → is_built vs ≡ true → IsLinePlan (flat_of vs) dag m n → (k : Settings) (log : List Event)
-    → (v : ℕ) (u : IrVertex) → slice_get dag.vertices v ≡ Some u → suc v < m → sink_written (plan_of vs dag) k log v u ≡ None
-inner_written vs dag m n h plan k log v u e l =
-    ap (λ o. under o (sorted record_cmp (flat_map (block_rows (plan_of vs dag) k log v) (below u.parallelism)))) (inner_at vs dag m n h plan v u e l)
+  -- the rows of all blocks in order
+  rows_are : sorted record_cmp (rows_of (count p - 1) (tasks_in p)) ≡ sorted record_cmp (value p.flat (count p - 1)).rows
+  rows_are =
+      let some : 1 ≤ count p = (stage_plan p o).some in
+      ap (sorted record_cmp) (flat_counted (block_rows p k log (count p - 1)) (λ i. (ran p (tasks_in p) i (count p - 1)).rows) 0 (tasks_in p) (λ i l. blocks i (omega arith)))
+      ∙ sorted_alike record_cmp record_strict (from_std _ _ (ran_rows p o (count p - 1) (omega arith)))
 
--- where each block of the last vertex has the rows of its task, the sink has what the job gives to it
-pub written_is : (vs : List JobVertex) (dag : IrDag) (m n : ℕ) → is_built vs ≡ true → IsLinePlan (flat_of vs) dag m n → (k : Settings) (log : List Event)
-    → ((i : ℕ) → i < n → block_rows (plan_of vs dag) k log (m - 1) i ≡ task_rows n i (flat_of vs).transforms [])
-    → written (plan_of vs dag) k log ≡ job_rows vs
-written_is vs dag m n h plan k log blocks =
-    let make = sink_written (plan_of vs dag) k log in
-    let long : length (flat_of vs).transforms ≡ m = (counts_of vs m h plan.flat_count).transforms in
-    let count : length dag.vertices ≡ m = plan.count in
-    let some : 1 ≤ m = plan.some in
-    let sink = last_sink vs h (m - 1) (omega arith) in
-    ap (sorted by_name) (last_only make 0 dag.vertices (task_sink vs n sink.0)
-    (λ v u e l. ap (λ w. make w u) (from_none v) ∙ inner_written vs dag m n h plan k log v u e (omega arith))
-    (λ v u e l. ap (λ w. make w u) (from_none v) ∙ last_written vs dag m n h plan k log blocks v u sink.0 e (omega arith) sink.1)
-    (omega arith))
-    ∙ sym (job_from_tasks vs h n plan.tasks (m - 1) sink.0 (omega arith) sink.1)
+  inner_written : (v : ℕ) (u : IrVertex) → slice_get p.dag.vertices v ≡ Some u → suc v < count p → sink_written p k log v u ≡ None
+  inner_written v u e l =
+      let here : v < count p = omega arith in
+      let s = stands p o v here in
+      ap (option_map (λ name. record { name = name; rows = rows_of v u.parallelism })) (sink_is p o v u here e ∙ (end_of p o).inner v s.copy s.copy_at l)
+
+  last_written : (v : ℕ) (u : IrVertex) → slice_get p.dag.vertices v ≡ Some u → suc v ≡ count p → sink_written p k log v u ≡ Some end_sink
+  last_written v u e l =
+      let here : v < count p = omega arith in
+      let at_end : v ≡ count p - 1 = omega arith in
+      let s = stands p o v here in
+      let is : sink_at p u ≡ Some (end_of p o).name = sink_is p o v u here e ∙ ap sink_name ((end_of p o).last v s.copy s.copy_at l) in
+      let tasks : u.parallelism ≡ tasks_in p = (sink_last p o v u (end_of p o).name e is).1 in
+      ap (option_map (λ name. record { name = name; rows = rows_of v u.parallelism })) is
+      ∙ ap (λ n. Some (record { name = (end_of p o).name; rows = rows_of v n })) tasks
+      ∙ ap (λ w. Some (record { name = (end_of p o).name; rows = rows_of w (tasks_in p) })) at_end
+
+  -- the sink has what the flat job gives to it
+  pub written_is : written p k log ≡ flat_rows p.flat
+  written_is =
+      let make = sink_written p k log in
+      let some : 1 ≤ count p = (stage_plan p o).some in
+      ap in_order (last_only make 0 p.dag.vertices end_sink
+      (λ v u e l. ap (λ w. make w u) (from_none v) ∙ inner_written v u e l)
+      (λ v u e l. ap (λ w. make w u) (from_none v) ∙ last_written v u e l)
+      some)
+      ∙ ap (λ rows. sorted by_name (record { name = (end_of p o).name; rows = rows } ∷ [])) rows_are
+      ∙ sym (ap (λ rs. in_order (map (λ r. record { name = r.name; rows = r.brought.rows }) rs)) (one_reached p o))

@@ -3,10 +3,10 @@ use Rattle.std.proofs.Common.{arith, ◌≡◌, ◌∙◌, ap, sym, subst, ℕ, 
 use Rattle.std.specs.List.{flat_map, list_all}
 use Rattle.std.proofs.Math.ListN.{length-replicate}
 use Rattle.std.proofs.lemmas.Bool.{lt-leb}
-use Rattle.nemo_base.specs.Sound.{passes}
+use Rattle.nemo_base.specs.Places.{passes}
 use Rattle.nemo_base.specs.declared.settings.Settings.{Settings}
 use Rattle.nemo_ir.specs.Along.{below, counted}
-use Rattle.nemo_core.specs.Numbered.{or_else}
+use Rattle.nemo_base.specs.Places.{or_else}
 use Rattle.nemo_core.specs.Reading.{first_of}
 use Rattle.nemo_core.specs.Run.{run_on}
 use Rattle.nemo_core.specs.State.{State, start}
@@ -40,8 +40,9 @@ none_spent m n k i range =
     ∙ ap (λ o. or_else o None) (first_none (may_be_spent (line_graph m n) k (ready m n k i) 0) n
     (λ j lt. ap (λ b. if b then Some (first_stage j) else None) (task_unspent m n k i j lt range)))
 
-pub none_decided : (m n : ℕ) (s : State) → filter (may_decide (line_graph m n) s) (below (length (line_graph m n).vertices)) ≡ []
-none_decided m n s =
+pub none_decided : (m n : ℕ) (k : Settings) (i : ℕ) → filter (may_decide (line_graph m n) (ready m n k i)) (below (length (line_graph m n).vertices)) ≡ []
+none_decided m n k i =
+    let s : State = ready m n k i in
     filter_none (may_decide (line_graph m n) s) (length (line_graph m n).vertices)
     (λ v lt. let size : length (line_graph m n).vertices ≡ m = map_length (line_vertex m n) m in
     let within : v < m = omega arith in
@@ -60,7 +61,7 @@ launch_hold m n k i some lt range =
     record {
       unspent = none_spent m n k i range;
       decisions = [];
-      decided = subst (λ vs. Decisions vs []) (sym (none_decided m n (ready m n k i))) tt;
+      decided = subst (λ vs. Decisions vs []) (sym (none_decided m n k i)) tt;
       slot = slot_of k i;
       known = omega (arith, count, fit.within);
       is = sym (ap (launch_event (machine (line_graph m n) k (ready m n k i)) (slot_of k i)) (launchable_next m n k i (slot_of k i) 0 some lt range fit));

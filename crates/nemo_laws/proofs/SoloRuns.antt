@@ -1,73 +1,75 @@
--- The run of a chain's plan on one thread is done, and gives the sinks what the job gives them.
-use Rattle.std.proofs.Common.{arith, ◌≡◌, ◌∙◌, ap, sym, subst, refl, ℕ, suc, ◌-◌, ◌<◌, List, [], length, true}
+-- The run of a plan of one stage on one thread is done, and gives the sinks what the flat job gives them.
+use Rattle.std.proofs.Common.{arith, ◌≡◌, ◌∙◌, ap, sym, subst, refl, ℕ, zero, suc, ◌+◌, ◌-◌, ◌<◌, ◌≤◌, List, [], ◌∷◌, ◌++◌, length, map}
 use Rattle.nemo_base.specs.declared.settings.Settings.{Settings}
-use Rattle.nemo_ir.specs.Flat.{IsFlat}
-use Rattle.nemo_ir.specs.Line.{IsLine}
-use Rattle.nemo_ir.specs.Uniform.{first_tasks, is_uniform}
-use Rattle.nemo_ir.specs.Valid.{Valid}
-use Rattle.nemo_ir.specs.declared.dag.IrDag.{IrDag}
-use Rattle.nemo_flat.specs.Flat.{flat_of}
-use Rattle.nemo_flat.proofs.ChainFlat.{chain_flat, chain_is, line_of}
-use Rattle.nemo_job.specs.Chain.{is_built, names_of}
-use Rattle.nemo_job.specs.declared.vertex.JobVertex.{JobVertex}
-use Rattle.nemo_plan.specs.Form.{graph}
-use Rattle.nemo_plan.specs.LinePlan.{IsLinePlan}
-use Rattle.nemo_plan.proofs.LinePlan.{line_plan}
-use Rattle.nemo_laws.specs.Done.{IsDoneRun, IsRange, SoloLaw, plan_of}
+use Rattle.nemo_transform.specs.Brought.{all_faults}
+use Rattle.nemo_ir.specs.Along.{counted}
+use Rattle.nemo_ir.specs.Meaning.{flat_faults}
+use Rattle.nemo_plan.specs.Form.{PlanForm, graph}
+use Rattle.nemo_laws.specs.Data.{Given, task_gives}
+use Rattle.nemo_laws.specs.Done.{IsDoneRun, IsRange, SoloLaw}
 use Rattle.nemo_laws.specs.Holds.{Holds}
+use Rattle.nemo_laws.specs.Legal.{Faultless}
 use Rattle.nemo_laws.specs.Ready.{ready}
-use Rattle.nemo_laws.specs.Solo.{solo_log, task_rows}
+use Rattle.nemo_laws.specs.Solo.{IsOneStage, first_stage, solo_log, tasks_in}
 use Rattle.nemo_laws.specs.Written.{IsFromCommit, block_rows}
+use Rattle.nemo_laws.proofs.Computed.{ran_clean}
 use Rattle.nemo_laws.proofs.Logs.{turns}
-use Rattle.nemo_laws.proofs.SinkRows.{sink_last, written_is}
+use Rattle.nemo_laws.proofs.OneStage.{clean_below, count, stage_plan}
+use Rattle.nemo_laws.proofs.SinkRows.{end_clean, sink_last, written_is}
 use Rattle.nemo_laws.proofs.SoloCommits.{solo_commits}
 use Rattle.nemo_laws.proofs.SoloHolds.{solo_holds}
 use Rattle.nemo_laws.proofs.SoloLegal.{solo_blocks, solo_given, solo_legal}
-use Rattle.nemo_laws.proofs.Tasks.{task_clean, task_ends}
+use Rattle.nemo_laws.proofs.Tasks.{ran, task_has}
 
----- the plan
+none_from : (gives : Given) (k c : ℕ) → ((v : ℕ) → v < k + c → (gives v).faults ≡ []) → all_faults (map gives (counted k c)) ≡ []
+none_from gives k zero f = refl
+none_from gives k (suc c) f = ap (λ fs. fs ++ all_faults (map gives (counted (suc k) c))) (f k (omega arith)) ∙ none_from gives (suc k) c (λ v l. f v (omega arith))
 
-pub chain_form : (vs : List JobVertex) → is_built vs ≡ true → IsFlat (flat_of vs)
-chain_form vs h = subst IsFlat (sym (chain_is vs h).flat) (chain_flat vs h)
+module _ (p : PlanForm) (k : Settings) (o : IsOneStage p) (range : IsRange k) (clean : flat_faults p.flat ≡ []) where
+  abbrev m : ℕ
+  m = count p
 
-pub chain_line : (vs : List JobVertex) → is_built vs ≡ true → IsLine (flat_of vs)
-chain_line vs h = subst IsLine (sym (chain_is vs h).flat) (line_of 0 (names_of vs))
+  abbrev n : ℕ
+  n = tasks_in p
 
--- the plan that a uniform DAG makes of a chain
-pub chain_plan : (vs : List JobVertex) (dag : IrDag) → is_built vs ≡ true → Valid (flat_of vs) dag → is_uniform dag ≡ true
-    → IsLinePlan (flat_of vs) dag (length dag.vertices) (first_tasks dag.vertices)
-chain_plan vs dag h valid uniform = line_plan (flat_of vs) dag (chain_form vs h) (chain_line vs h) valid uniform
+  -- no task has a fault at any vertex
+  ran_none : (i v : ℕ) → i < n → v < m → (ran p n i v).faults ≡ []
+  ran_none i v lt l =
+      let up : v + (m - 1 - v) ≡ m - 1 = omega arith in
+      clean_below p o n i (m - 1 - v) v (omega arith) (ap (λ w. (ran p n i w).faults) up ∙ ran_clean p o (m - 1) i (omega arith) lt (end_clean p o clean))
 
----- its run
+  task_clean : (i : ℕ) → i < n → (given : List Given) → Faultless p (task_gives p given (ready m n k i) (first_stage i))
+  task_clean i lt given =
+      none_from (task_gives p given (ready m n k i) (first_stage i)) 0 m
+      (λ v l. ap (λ b. b.faults) (task_has p m n (stage_plan p o) given (ready m n k i) i v (omega arith)) ∙ ran_none i v lt (omega arith))
 
-solo_done : (vs : List JobVertex) (dag : IrDag) (m n : ℕ) (k : Settings) → is_built vs ≡ true → IsLinePlan (flat_of vs) dag m n → IsRange k → IsDoneRun (plan_of vs dag) k [] (solo_log k n)
-solo_done vs dag m n k h plan range = record {
-  legal = solo_legal (plan_of vs dag) m n k plan.graph_is plan.some range (λ i lt given. task_clean vs dag m n h plan given (ready m n k i) i);
-  holds = subst (λ g. Holds g k [] (solo_log k n)) (sym plan.graph_is) (solo_holds m n k plan.some plan.tasks range);
-  before = turns k n;
-  ends = refl;
-  commits = λ v u name i e sink lt.
-      let last = sink_last vs dag m n h plan v u name e sink in
-      let here : m - 1 ≡ v = let l : suc v ≡ m = last.0 in omega arith in
-      let within : i < n = subst (λ c. i < c) last.1 lt in (
-        i,
-        subst (λ w. IsFromCommit (graph (plan_of vs dag)) k (solo_log k n) w i i) here
-            (subst (λ g. IsFromCommit g k (solo_log k n) (m - 1) i i) (sym plan.graph_is) (solo_commits m n k i plan.some within)),
-      );
-}
+  solo_done : IsDoneRun p k [] (solo_log k n)
+  solo_done =
+      let plan = stage_plan p o in
+      record {
+        legal = solo_legal p m n k plan.graph_is plan.some range task_clean;
+        holds = subst (λ g. Holds g k [] (solo_log k n)) (sym plan.graph_is) (solo_holds m n k plan.some plan.tasks range);
+        before = turns k n;
+        ends = refl;
+        commits = λ v u name i e sink lt.
+            let last = sink_last p o v u name e sink in
+            let here : m - 1 ≡ v = let l : suc v ≡ m = last.0 in omega arith in
+            let within : i < n = subst (λ c. i < c) last.1 lt in (
+              i,
+              subst (λ w. IsFromCommit (graph p) k (solo_log k n) w i i) here
+                  (subst (λ g. IsFromCommit g k (solo_log k n) (m - 1) i i) (sym plan.graph_is) (solo_commits m n k i plan.some within)),
+            );
+      }
 
--- the block of task i has the rows of task i
-solo_block : (vs : List JobVertex) (dag : IrDag) (m n : ℕ) (k : Settings) (h : is_built vs ≡ true) (plan : IsLinePlan (flat_of vs) dag m n) (i : ℕ) → i < n
-    → block_rows (plan_of vs dag) k (solo_log k n) (m - 1) i ≡ task_rows n i (flat_of vs).transforms []
-solo_block vs dag m n k h plan i lt =
-    let given = solo_given (plan_of vs dag) m n k i plan.graph_is plan.some lt in
-    solo_blocks (plan_of vs dag) m n k i plan.graph_is plan.some lt
-    ∙ ap (λ f. (f (m - 1)).rows) given.is
-    ∙ ap (λ b. b.rows) (task_ends vs dag m n h plan given.before (ready m n k i) i)
+  -- the block of task i has the rows that it gives at the last vertex
+  solo_block : (i : ℕ) → i < n → block_rows p k (solo_log k n) (m - 1) i ≡ (ran p n i (m - 1)).rows
+  solo_block i lt =
+      let plan = stage_plan p o in
+      let some : 1 ≤ m = plan.some in
+      let given = solo_given p m n k i plan.graph_is some lt in
+      solo_blocks p m n k i plan.graph_is some lt
+      ∙ ap (λ f. (f (m - 1)).rows) given.is
+      ∙ ap (λ b. b.rows) (task_has p m n plan given.before (ready m n k i) i (m - 1) (omega arith))
 
 pub solo_runs : SoloLaw
-solo_runs vs dag k h valid uniform range =
-    let m = length dag.vertices in
-    let n = first_tasks dag.vertices in
-    let plan = chain_plan vs dag h valid uniform in
-    (solo_done vs dag m n k h plan range, written_is vs dag m n h plan k (solo_log k n) (λ i lt. solo_block vs dag m n k h plan i lt))
+solo_runs p k o range clean = (solo_done p k o range clean, written_is p o k (solo_log k (tasks_in p)) (solo_block p k o range clean))

@@ -1,8 +1,8 @@
 -- The states of the run of a one-stage line on one thread, between its events.
 use Rattle.std.proofs.Common.{arith, ◌≡◌, ◌∙◌, ap, sym, refl, ℕ, suc, ◌-◌, ◌≤◌, ◌==◌, nat_lt, [], ◌∷◌, map, replicate, false, ◌||◌, if◌then◌else◌, Option, Some, None, ⊎_elim, eq-eqb, ne_eqb}
 use Rattle.std.proofs.lemmas.Bool.{le-ltb, cases_Bool, eqb-true, eqb-false}
-use Rattle.nemo_base.specs.Numbered.{map_at}
-use Rattle.nemo_base.specs.Sound.{is_in}
+use Rattle.nemo_base.specs.Places.{map_at}
+use Rattle.nemo_base.specs.Places.{is_in}
 use Rattle.nemo_base.specs.declared.settings.Settings.{Settings}
 use Rattle.nemo_ir.specs.Along.{below}
 use Rattle.nemo_core.specs.State.{start, fresh_task, fresh_blocks}

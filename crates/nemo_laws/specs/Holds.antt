@@ -1,7 +1,7 @@
 -- Which logs are made of holds: what one call of the master adds to a log.
 use Rattle.std.specs.Prelude.{◌≡◌, ◌⊎◌, ◌<◌, ℕ, ◌==◌, ◌&&◌, not, Bool, true, false, List, [], ◌∷◌, ◌++◌, length, filter, slice_get, is_none, Option, Some, None, if◌then◌else◌}
 use Rattle.std.specs.List.{flat_map, list_all}
-use Rattle.nemo_base.specs.Sound.{passes}
+use Rattle.nemo_base.specs.Places.{passes}
 use Rattle.nemo_base.specs.declared.graph.TaskGraph.{TaskGraph}
 use Rattle.nemo_base.specs.declared.id.TaskId.{TaskId}
 use Rattle.nemo_base.specs.declared.script.Action.{Action}
@@ -17,7 +17,7 @@ use Rattle.nemo_core.specs.declared.event.HeldBy.{HeldBy}
 use Rattle.nemo_core.specs.Reading.{first_task, launch_of, launchable}
 use Rattle.nemo_core.specs.Run.{run_on}
 use Rattle.nemo_core.specs.State.{State, Machine, blocks_read, start}
-use Rattle.nemo_core.specs.Step.{after, is_decided, is_skewed, refusal, vertex_held}
+use Rattle.nemo_core.specs.Step.{after, is_decided, is_going, is_skewed, refusal, vertex_held}
 
 -- the state that a log leaves
 abbrev pub state_of : TaskGraph → Settings → List Event → State
@@ -49,9 +49,9 @@ least_spent g k s = first_task g (may_be_spent g k s)
 
 ---- decisions and a launch
 
--- the vertex is skewed and undecided, and every block of its Triggers is held
+-- the run goes on, and the vertex is skewed and undecided, and every block of its Triggers is held
 abbrev pub may_decide : TaskGraph → State → ℕ → Bool
-may_decide g s v = passes (λ row. is_skewed row && not (is_decided s.cuts v) && list_all (vertex_held s) row.triggers) (slice_get g.vertices v)
+may_decide g s v = is_going s.outcome && passes (λ row. is_skewed row && not (is_decided s.cuts v) && list_all (vertex_held s) row.triggers) (slice_get g.vertices v)
 
 -- a decision for each of these vertices, in order
 abbrev pub Decisions : List ℕ → List Event → Type 0

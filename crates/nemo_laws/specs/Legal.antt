@@ -4,13 +4,14 @@ use Rattle.std.specs.List.{flat_map}
 use Rattle.std.specs.Ordering.{ordering_then}
 use Rattle.std.specs.declared.cmp.Ordering.{Ordering}
 use Rattle.nemo_value.specs.Ascending.{ascending}
-use Rattle.nemo_value.specs.Bucket.{bucket_of}
 use Rattle.nemo_value.specs.KindOrder.{kind_cmp}
 use Rattle.nemo_value.specs.Order.{record_cmp}
+use Rattle.nemo_base.specs.LeastCuts.{IsLeastCuts}
+use Rattle.nemo_base.specs.Samples.{counts_of, sampled}
 use Rattle.nemo_base.specs.declared.graph.VertexRow.{VertexRow}
 use Rattle.nemo_base.specs.declared.settings.Settings.{Settings}
 use Rattle.nemo_transform.specs.Brought.{Arisen, all_faults}
-use Rattle.nemo_transform.specs.Gives.{Row, key}
+use Rattle.nemo_transform.specs.Gives.{Row}
 use Rattle.nemo_ir.specs.Along.{below}
 use Rattle.nemo_ir.specs.Nodes.{origin}
 use Rattle.nemo_core.specs.State.{State, held_at, holder, start}
@@ -19,7 +20,7 @@ use Rattle.nemo_core.specs.declared.event.Event.{Event}
 use Rattle.nemo_core.specs.declared.event.Event.TheVariants.{Commit, Decide, Fault}
 use Rattle.nemo_plan.specs.Form.{PlanForm, graph}
 use Rattle.nemo_laws.specs.Data.{Given, gives_nothing, with_attempt}
-use Rattle.nemo_laws.specs.LeastCuts.{IsLeastCuts}
+
 
 abbrev pub all_vertices : PlanForm → List ℕ
 all_vertices p = below (length p.dag.vertices)
@@ -41,38 +42,30 @@ pub record FirstFault (p : PlanForm) (gives : Given) (fault : Arisen ℕ) : Type
   pub is : slice_get (ascending by_kind (gives vertex).faults) 0 ≡ Some fault
   pub named : fault.vertex ≡ origin p.dag vertex
 
--- from number k on, the rows whose number is a multiple of the step
-abbrev pub sampled : ℕ → ℕ → List Row → List Row
-sampled step k [] = []
-sampled step k (r ∷ rows) = if k % step == 0 then r ∷ sampled step (k + 1) rows else sampled step (k + 1) rows
-
 -- the sample of a Trigger's blocks, as they are held
 abbrev pub trigger_sample : Settings → State → List Given → ℕ → ℕ → List Row
 trigger_sample k s given u tasks = flat_map (λ j. sampled k.sample 0 (given_by given (holder (held_at s u j)) u).rows) (below tasks)
 
-abbrev pub counts_of : List Row → List ℕ
-counts_of rows = map (λ b. count_by (λ r. bucket_of (key r) == b) rows) (below 256)
+abbrev pub row_tasks : Option VertexRow → ℕ
+row_tasks (Some row) = row.parallelism
+row_tasks None = 0
 
-abbrev pub tasks_in : Option VertexRow → ℕ
-tasks_in (Some row) = row.parallelism
-tasks_in None = 0
-
-abbrev pub triggers_in : Option VertexRow → List ℕ
-triggers_in (Some row) = row.triggers
-triggers_in None = []
+abbrev pub row_triggers : Option VertexRow → List ℕ
+row_triggers (Some row) = row.triggers
+row_triggers None = []
 
 abbrev pub row_of : PlanForm → ℕ → Option VertexRow
 row_of p v = slice_get (graph p).vertices v
 
 -- over each Trigger in-edge of a vertex
 abbrev pub sample : PlanForm → Settings → State → List Given → ℕ → List Row
-sample p k s given v = flat_map (λ u. trigger_sample k s given u (tasks_in (row_of p u))) (triggers_in (row_of p v))
+sample p k s given v = flat_map (λ u. trigger_sample k s given u (row_tasks (row_of p u))) (row_triggers (row_of p v))
 
 -- what an event says of the data is true
 abbrev pub IsHonest : PlanForm → Settings → State → List Given → Event → Type 0
 IsHonest p k s given (Commit a) = Faultless p (given_by given a)
 IsHonest p k s given (Fault a x kind rec) = FirstFault p (given_by given a) (record { vertex = x; kind = kind; rec = rec })
-IsHonest p k s given (Decide v cuts) = IsLeastCuts (counts_of (sample p k s given v)) (tasks_in (row_of p v)) cuts
+IsHonest p k s given (Decide v cuts) = IsLeastCuts (counts_of (sample p k s given v)) (row_tasks (row_of p v)) cuts
 IsHonest p k s given _ = Unit {0}
 
 abbrev pub LegalFrom : PlanForm → Settings → State → List Given → List Event → Type 0

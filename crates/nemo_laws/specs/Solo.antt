@@ -1,5 +1,5 @@
 -- The run of a plan of one stage on one thread.
-use Rattle.std.specs.Prelude.{ℕ, ◌+◌, ◌%◌, ◌==◌, List, [], ◌∷◌, ◌++◌, if◌then◌else◌}
+use Rattle.std.specs.Prelude.{◌≡◌, ℕ, ◌+◌, ◌%◌, ◌==◌, true, List, [], ◌∷◌, ◌++◌, Option, Some, None, if◌then◌else◌}
 use Rattle.std.specs.List.{flat_map}
 use Rattle.nemo_base.specs.declared.id.TaskId.{TaskId}
 use Rattle.nemo_base.specs.declared.settings.Settings.{Settings}
@@ -8,8 +8,12 @@ use Rattle.nemo_core.specs.declared.event.Event.TheVariants.{Launch, Commit, Fin
 use Rattle.nemo_transform.specs.Gives.{Row, answers, rows_in}
 use Rattle.nemo_transform.specs.declared.transform.Transform.{Transform}
 use Rattle.nemo_ir.specs.Along.{below}
+use Rattle.nemo_ir.specs.Flat.{FlatForm, IsFlat, transform_of}
+use Rattle.nemo_ir.specs.Line.{IsLine}
 use Rattle.nemo_ir.specs.Part.{dealt_to}
-use Rattle.nemo_ir.specs.Uniform.{first_tasks}
+use Rattle.nemo_ir.specs.Uniform.{first_tasks, is_uniform}
+use Rattle.nemo_ir.specs.Valid.{Valid}
+use Rattle.nemo_ir.specs.declared.flat.FlatVertex.{FlatVertex}
 use Rattle.nemo_plan.specs.Form.{PlanForm}
 
 -- the slot of a launch: among the m slots that the tasks fit on, the one at place `launches so far modulo m`. That is a
@@ -28,11 +32,23 @@ turn k i = Launch i (first_stage i) (slot_of k i) [] ∷ Commit i ∷ []
 abbrev pub solo_log : Settings → ℕ → List Event
 solo_log k n = flat_map (turn k) (below n) ++ Finish ∷ []
 
+-- the plan that a uniform DAG makes of a line, which is one stage
+pub record IsOneStage (p : PlanForm) : Type 0 where
+  pub flat : IsFlat p.flat
+  pub line : IsLine p.flat
+  pub valid : Valid p.flat p.dag
+  pub uniform : is_uniform p.dag ≡ true
+
 -- how many tasks the one stage has
 abbrev pub tasks_in : PlanForm → ℕ
 tasks_in p = first_tasks p.dag.vertices
 
--- the rows that task i of n has gone through some transforms with, one after another, from these on
-abbrev pub task_rows : ℕ → ℕ → List Transform → List Row → List Row
-task_rows n i [] rows = rows
-task_rows n i (t ∷ ts) rows = task_rows n i ts (rows_in (answers (dealt_to n i t) rows []))
+-- what task i of n makes of the rows before a vertex
+abbrev pub rows_by : ℕ → ℕ → Option Transform → List Row → List Row
+rows_by n i (Some t) rows = rows_in (answers (dealt_to n i t) rows [])
+rows_by n i None rows = []
+
+-- the rows that task i of n has after some vertices of a line, one after another, from these on
+abbrev pub task_rows : FlatForm → ℕ → ℕ → List FlatVertex → List Row → List Row
+task_rows flat n i [] rows = rows
+task_rows flat n i (x ∷ xs) rows = task_rows flat n i xs (rows_by n i (transform_of flat x) rows)

@@ -1,23 +1,21 @@
 -- What a run has written: the blocks of its sinks, each from one commit.
-use Rattle.std.specs.Prelude.{◌≡◌, ◌<◌, ℕ, ◌==◌, Bool, false, List, [], ◌∷◌, ◌++◌, slice_get, Option, Some, None}
+use Rattle.std.specs.Prelude.{◌≡◌, ◌<◌, ℕ, ◌==◌, Bool, false, List, [], ◌∷◌, ◌++◌, option_map, slice_get, Option, Some, None}
 use Rattle.std.specs.List.{filter_map, flat_map, list_any}
-use Rattle.nemo_base.specs.Numbered.{map_at}
+use Rattle.nemo_base.specs.Places.{map_at}
 use Rattle.nemo_base.specs.declared.graph.TaskGraph.{TaskGraph}
 use Rattle.nemo_base.specs.declared.settings.Settings.{Settings}
-use Rattle.nemo_value.specs.Order.{record_cmp}
-use Rattle.nemo_value.specs.Sorting.{sorted}
 use Rattle.nemo_value.specs.declared.record.SinkRows.{SinkRows}
 use Rattle.nemo_transform.specs.Gives.{Row}
-use Rattle.nemo_transform.specs.declared.transform.Transform.TheVariants.{Sink}
 use Rattle.nemo_ir.specs.Along.{below}
-use Rattle.nemo_ir.specs.Nodes.{Deed, Does, deed_of}
+use Rattle.nemo_ir.specs.Flat.{sink_name}
 use Rattle.nemo_ir.specs.declared.dag.IrVertex.{IrVertex}
-use Rattle.nemo_value.specs.SinkOrder.{by_name}
+use Rattle.nemo_value.specs.SinkOrder.{in_order}
 use Rattle.nemo_core.specs.State.{State, held_at, holder}
 use Rattle.nemo_core.specs.Step.{after}
 use Rattle.nemo_core.specs.declared.event.Event.{Event}
 use Rattle.nemo_core.specs.declared.event.Event.TheVariants.{Commit}
 use Rattle.nemo_plan.specs.Form.{PlanForm, graph}
+use Rattle.nemo_plan.specs.Graph.{vertex_transform}
 use Rattle.nemo_laws.specs.Data.{data_of}
 use Rattle.nemo_laws.specs.Holds.{state_of}
 use Rattle.nemo_laws.specs.Legal.{given_by}
@@ -49,13 +47,9 @@ pub record IsFromCommit (g : TaskGraph) (k : Settings) (log : List Event) (v i a
 
 ---- what the sinks get
 
-abbrev pub sink_of : Deed → Option (List ℕ)
-sink_of (Does (Sink name)) = Some name
-sink_of _ = None
-
 -- the name of the sink that a vertex is, if it is one
 abbrev pub sink_at : PlanForm → IrVertex → Option (List ℕ)
-sink_at p u = sink_of (deed_of p.flat.transforms u.kind)
+sink_at p u = sink_name (vertex_transform p.flat u)
 
 -- each block of each sink is from one commit
 abbrev pub FromCommits : PlanForm → Settings → List Event → Type 0
@@ -67,14 +61,10 @@ FromCommits p k log =
 abbrev pub block_rows : PlanForm → Settings → List Event → ℕ → ℕ → List Row
 block_rows p k log v i = (given_by (data_of p k log) (holder (held_at (state_of (graph p) k log) v i)) v).rows
 
-abbrev pub under : Option (List ℕ) → List Row → Option SinkRows
-under (Some name) rows = Some (record { name = name; rows = rows })
-under None rows = None
-
--- a sink with the rows of its blocks, in order
+-- a sink with the rows of its blocks
 abbrev pub sink_written : PlanForm → Settings → List Event → ℕ → IrVertex → Option SinkRows
-sink_written p k log v u = under (sink_at p u) (sorted record_cmp (flat_map (block_rows p k log v) (below u.parallelism)))
+sink_written p k log v u = option_map (λ name. record { name = name; rows = flat_map (block_rows p k log v) (below u.parallelism) }) (sink_at p u)
 
--- the sinks by name
+-- the sinks by name, each with its rows in order
 abbrev pub written : PlanForm → Settings → List Event → List SinkRows
-written p k log = sorted by_name (filter_map (λ o. o) (map_at (sink_written p k log) 0 p.dag.vertices))
+written p k log = in_order (filter_map (λ o. o) (map_at (sink_written p k log) 0 p.dag.vertices))

@@ -3,7 +3,7 @@ use Rattle.std.proofs.Common.{arith, ◌≡◌, ◌∙◌, ap, sym, refl, ℕ, z
 use Rattle.std.proofs.lemmas.Bool.{and_right, ne_eqb, cases_lt}
 use Rattle.std.proofs.lemmas.Option.{slice_get_within}
 use Rattle.std.specs.List.{filter_map, list_any}
-use Rattle.nemo_base.specs.Numbered.{map_at}
+use Rattle.nemo_base.specs.Places.{map_at}
 use Rattle.nemo_base.specs.declared.annotation.Class.TheVariants.{Transient}
 use Rattle.nemo_base.specs.declared.graph.Home.TheVariants.{Master, Local}
 use Rattle.nemo_ir.specs.Along.{below, passes}
@@ -15,7 +15,7 @@ use Rattle.nemo_ir.specs.Valid.{Valid, is_hash, is_one_to_one, is_trigger, kinds
 use Rattle.nemo_ir.specs.declared.dag.IrDag.{IrDag}
 use Rattle.nemo_ir.specs.declared.dag.IrEdge.{IrEdge}
 use Rattle.nemo_ir.specs.declared.dag.IrVertex.{IrVertex}
-use Rattle.nemo_plan.specs.Graph.{class_of, first_vertex, graph_of, has_blocks, home_of, is_any, is_sink_vertex, keeps_none, leaves, leaving, of_stage, rank_in, rank_of, read_along, reads_into, reads_of, sink_by, stage_row, tasks_of, trigger_along, vertex_row, vertices_of, greatest}
+use Rattle.nemo_plan.specs.Graph.{class_of, first_vertex, graph_of, has_blocks, home_of, is_any, is_sink_vertex, keeps_none, leaves, leaving, of_stage, rank_in, rank_of, read_along, reads_into, reads_of, stage_row, tasks_of, transform_in, trigger_along, vertex_row, vertices_of, greatest}
 use Rattle.nemo_plan.specs.Line.{line_graph, line_stage, line_vertex}
 use Rattle.nemo_plan.specs.Stages.{count_stages, in_edges, stage_at, stages_of}
 use Rattle.nemo_ir.proofs.Places.{from_none, same_item}
@@ -68,7 +68,7 @@ rank_none flat dag stages s one =
 -- of m vertices this one is the last
 sink_is : (flat : FlatForm) (dag : IrDag) → IsFlat flat → IsLine flat → (v : ℕ) (s : Standing flat dag v) → v < length flat.vertices → is_sink_vertex flat s.op ≡ (suc v == length flat.vertices)
 sink_is flat dag f line v s l =
-    let same : is_sink_vertex flat s.op ≡ is_sink (transform_of flat s.copy) = ap sink_by s.deed ∙ sym (ap is_sink s.is) in
+    let same : is_sink_vertex flat s.op ≡ is_sink (transform_of flat s.copy) = ap (λ d. is_sink (transform_in d)) s.deed ∙ sym (ap is_sink s.is) in
     same ∙ elim (cases_lt (suc v) (length flat.vertices)) [
       | inl less ↦ (let differs : suc v ≢ length flat.vertices = omega arith in no_sink flat f line v s.copy s.copy_at less ∙ sym (ne_eqb (suc v) (length flat.vertices) differs))
       | inr more ↦ (let last : suc v ≡ length flat.vertices = omega arith in last_sink flat f line v s.copy s.copy_at last ∙ sym (eq-eqb (suc v) (length flat.vertices) last))

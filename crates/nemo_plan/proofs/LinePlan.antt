@@ -3,7 +3,7 @@ use Rattle.std.proofs.Common.{arith, ◌≡◌, ◌∙◌, ap, sym, subst, refl,
 use Rattle.std.proofs.lemmas.Bool.{leb-true}
 use Rattle.std.proofs.lemmas.Option.{slice_get_within}
 use Rattle.std.specs.Cmp.{first_so, second_so}
-use Rattle.nemo_base.specs.Numbered.{map_at}
+use Rattle.nemo_base.specs.Places.{map_at}
 use Rattle.nemo_transform.specs.declared.transform.Transform.{Transform}
 use Rattle.nemo_ir.specs.Along.{below, passes}
 use Rattle.nemo_ir.specs.Flat.{FlatForm, IsFlat}
@@ -114,6 +114,7 @@ plan_kept flat dag f line valid h stages graph cut is =
     let p = line_plan flat dag f line valid h in
     let lists : stage_lists flat dag ≡ below (length dag.vertices) ∷ [] = ap (λ n. map (vertices_of (stages_of flat dag)) (below n)) p.one_stage ∙ ap (λ vs. vs ∷ []) p.vertices_are in
     record {
+      job = f;
       valid = valid;
       cut = cut ∙ sym lists;
       is = is ∙ sym p.graph_is;

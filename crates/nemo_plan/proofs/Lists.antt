@@ -6,7 +6,7 @@ use Rattle.std.proofs.lemmas.Option.{slice_get-map, slice_get_within}
 use Rattle.std.specs.Cmp.Derive.{both_true}
 use Rattle.std.specs.List.{cons_option, filter_map, flat_map, list_all, list_any}
 use Rattle.std.specs.Prelude.{option_map}
-use Rattle.nemo_base.specs.Numbered.{map_at}
+use Rattle.nemo_base.specs.Places.{map_at}
 use Rattle.nemo_ir.specs.Along.{along, below, counted}
 use Rattle.nemo_ir.proofs.Places.{below_get, counted_length, same_item}
 

@@ -5,14 +5,14 @@ use Rattle.std.proofs.lemmas.Option.{get_or_from_slice_get, slice_get_past, slic
 use Rattle.std.specs.Cmp.{first_so}
 use Rattle.std.specs.List.{fold, list_all, list_any}
 use Rattle.nemo_base.specs.declared.annotation.Pattern.TheVariants.{OneToOne}
-use Rattle.nemo_transform.specs.Ports.{PortKind, kinds_of}
+use Rattle.nemo_transform.specs.Ports.{PortKind, Main, Keyed, Side, kinds_of}
 use Rattle.nemo_transform.specs.declared.transform.Transform.{Transform}
 use Rattle.nemo_ir.specs.Along.{passes}
 use Rattle.nemo_ir.specs.Flat.{FlatForm, IsFlat, transform_of}
 use Rattle.nemo_ir.specs.Line.{IsLine, one_before}
 use Rattle.nemo_ir.specs.Nodes.{Does, deed_of, deed_or, edge_at, feed_of, feeds_from, is_utility, kinds_in, node_of, nodes, nodes_from, rep_of, resolve}
 use Rattle.nemo_ir.specs.Uniform.{first_tasks, is_uniform}
-use Rattle.nemo_ir.specs.Valid.{HasRep, StandsFor, Valid, is_fed, is_rep, kinds_at, names_each, ports_named}
+use Rattle.nemo_ir.specs.Valid.{HasRep, StandsFor, Valid, is_fed, is_rep, is_taken, kinds_at, names_each, ports_named, takes}
 use Rattle.nemo_ir.specs.declared.dag.IrDag.{IrDag}
 use Rattle.nemo_ir.specs.declared.dag.IrEdge.{IrEdge}
 use Rattle.nemo_ir.specs.declared.dag.IrVertex.{IrVertex}
@@ -35,6 +35,7 @@ pub record HasEdge (es : List IrEdge) (v : ℕ) : Type 0 where
   pub stands : slice_get es place ≡ Some edge
   pub is : edge_at es v 0 ≡ Some edge
   pub to : edge.to ≡ v
+  pub port : edge.port ≡ 0
 
 abbrev tally : ℕ → List ℕ → ℕ
 tally n ports = fold (λ a q. a + cond (q == 0) 1 0) n ports
@@ -45,11 +46,11 @@ named_edge [] v h = cc
 named_edge (e ∷ es) v h = go (e.to == v) (e.port == 0) refl refl h (named_edge es v)
   where
     rest : ((e.to == v) && (e.port == 0)) ≡ false → HasEdge es v → HasEdge (e ∷ es) v
-    rest miss r = record { edge = r.edge; place = suc r.place; stands = r.stands; is = ap (λ b. cond b (Some e) (edge_at es v 0)) miss ∙ r.is; to = r.to }
+    rest miss r = record { edge = r.edge; place = suc r.place; stands = r.stands; is = ap (λ b. cond b (Some e) (edge_at es v 0)) miss ∙ r.is; to = r.to; port = r.port }
 
     go : (b c : Bool) → (e.to == v) ≡ b → (e.port == 0) ≡ c → tally 0 (map (λ d. d.port) (cond b (e ∷ filter (λ d. d.to == v) es) (filter (λ d. d.to == v) es))) ≡ 1
         → (tally 0 (ports_named es v) ≡ 1 → HasEdge es v) → HasEdge (e ∷ es) v
-    go true true to port g more = record { edge = e; place = 0; stands = refl; is = ap (λ b. cond b (Some e) (edge_at es v 0)) (and_from (e.to == v) (e.port == 0) to port); to = eqb-true e.to v to }
+    go true true to port g more = record { edge = e; place = 0; stands = refl; is = ap (λ b. cond b (Some e) (edge_at es v 0)) (and_from (e.to == v) (e.port == 0) to port); to = eqb-true e.to v to; port = eqb-true e.port 0 port }
     go true false to port g more =
         rest (ap (λ b. b && (e.port == 0)) to ∙ port)
         (more (sym (ap (λ c. tally (0 + cond c 1 0) (ports_named es v)) port) ∙ g))
@@ -146,6 +147,29 @@ record Follows (flat : FlatForm) (dag : IrDag) (i number : ℕ) (t : Transform) 
   into : HasEdge dag.edges number
   comes : into.edge.from ≡ rep_of dag i
   feeds : feeds_from dag.edges number 0 (kinds_of t) ≡ record { from = into.edge.from; pattern = OneToOne } ∷ []
+  main : kinds_of t ≡ Main ∷ []
+
+-- a port that takes a OneToOne edge is Main
+main_kind : (k : PortKind) → takes k OneToOne ≡ true → k ≡ Main
+main_kind Main h = refl
+main_kind Keyed h = cc
+main_kind Side h = cc
+
+-- the one port of an Op is Main where a OneToOne edge leads into it
+main_port : (flat : FlatForm) (dag : IrDag) → Valid flat dag → (r : ℕ) (u : IrVertex) (t : Transform) → slice_get dag.vertices r ≡ Some u → deed_of flat.transforms u.kind ≡ Does t
+    → (k : PortKind) → kinds_of t ≡ k ∷ [] → (into : HasEdge dag.edges r) → into.edge.pattern ≡ OneToOne → k ≡ Main
+main_port flat dag v r u t e deed k only into plain =
+    let edge = into.edge in
+    let kinds : kinds_at flat u ≡ k ∷ [] = ap kinds_in deed ∙ only in
+    let taken : passes (is_taken flat dag) (Some edge) ≡ true = sym (ap (passes (is_taken flat dag)) into.stands) ∙ v.v6 into.place (slice_get_within dag.edges into.place edge into.stands) in
+    let test : IrVertex → Bool = λ w. passes (λ j. takes j edge.pattern) (slice_get (kinds_at flat w) edge.port) in
+    let is : test u ≡ true = sym (ap (λ number. passes test (slice_get dag.vertices number)) into.to ∙ ap (passes test) e) ∙ taken in
+    main_kind k
+    (sym
+    (ap (λ q. passes (λ j. takes j edge.pattern) (slice_get (kinds_at flat u) q)) into.port
+    ∙ ap (λ ks. passes (λ j. takes j edge.pattern) (slice_get ks 0)) kinds
+    ∙ ap (takes k) plain)
+    ∙ is)
 
 follows : (flat : FlatForm) (dag : IrDag) → Valid flat dag → is_uniform dag ≡ true → (i : ℕ) (s : Stands flat dag (suc i)) → Follows flat dag i s.number s.transform
 follows flat dag v h i s =
@@ -160,6 +184,7 @@ follows flat dag v h i s =
       into = into;
       comes = sym (resolve_own dag h into.edge.from (omega arith)) ∙ head_same (resolve dag into.edge.from) (rep_of dag i) fed;
       feeds = is ∙ ap (λ q. record { from = into.edge.from; pattern = q } ∷ []) plain.pattern;
+      main = only.1 ∙ ap (λ k. k ∷ []) (main_port flat dag v s.number s.op s.transform s.op_at s.deed only.0 only.1 into plain.pattern);
     }
 
 ---- the numbers
@@ -228,6 +253,8 @@ pub record Standing (flat : FlatForm) (dag : IrDag) (v : ℕ) : Type 0 where
   pub uniform : IsTransientOp (first_tasks dag.vertices) op
   pub deed : deed_of flat.transforms op.kind ≡ Does transform
   pub feeds : feeds_from dag.edges v 0 (kinds_of transform) ≡ line_feeds v
+  pub main : kinds_of transform ≡ map (λ i. Main) (one_before v)
+  pub rep : rep_of dag v ≡ v
 
 pub standing : (flat : FlatForm) (dag : IrDag) → IsFlat flat → IsLine flat → Valid flat dag → is_uniform dag ≡ true → (v : ℕ) → v < length flat.vertices → Standing flat dag v
 standing flat dag f line valid h v l =
@@ -245,8 +272,14 @@ standing flat dag f line valid h v l =
       uniform = uniform_op dag h v s.op op_at;
       deed = s.deed;
       feeds = ap (λ n. feeds_from dag.edges n 0 (kinds_of s.transform)) (sym number) ∙ fed v l s;
+      main = mains v s;
+      rep = rep_own v l;
     }
   where
+    mains : (i : ℕ) (s : Stands flat dag i) → kinds_of s.transform ≡ map (λ j. Main) (one_before i)
+    mains zero s = no_kind (kinds_of s.transform) s.ports
+    mains (suc i) s = (follows flat dag valid h i s).main
+
     rep_own : (i : ℕ) → i < length flat.vertices → rep_of dag i ≡ i
     rep_own i m = own (rep_of dag) (length flat.vertices) (length dag.vertices) (counts flat dag f line valid h) i m
 
@@ -262,6 +295,6 @@ from_before flat dag f line valid h i l =
     let number : s.number ≡ suc i = sym s.rep ∙ own (rep_of dag) (length flat.vertices) (length dag.vertices) c (suc i) l in
     let comes : g.into.edge.from ≡ i = g.comes ∙ own (rep_of dag) (length flat.vertices) (length dag.vertices) c i (omega arith) in
     record {
-      into = record { edge = g.into.edge; place = g.into.place; stands = g.into.stands; is = ap (λ n. edge_at dag.edges n 0) (sym number) ∙ g.into.is; to = g.into.to ∙ number };
+      into = record { edge = g.into.edge; place = g.into.place; stands = g.into.stands; is = ap (λ n. edge_at dag.edges n 0) (sym number) ∙ g.into.is; to = g.into.to ∙ number; port = g.into.port };
       comes = comes;
     }

@@ -9,7 +9,8 @@ use Rattle.nemo_base.specs.declared.graph.Read.{Read}
 use Rattle.nemo_base.specs.declared.graph.StageRow.{StageRow}
 use Rattle.nemo_base.specs.declared.graph.TaskGraph.{TaskGraph}
 use Rattle.nemo_base.specs.declared.graph.VertexRow.{VertexRow}
-use Rattle.nemo_base.specs.Numbered.{map_at}
+use Rattle.nemo_base.specs.Places.{map_at}
+use Rattle.nemo_transform.specs.declared.transform.Transform.{Transform}
 use Rattle.nemo_ir.specs.Along.{below, passes}
 use Rattle.nemo_ir.specs.Flat.{FlatForm, is_sink}
 use Rattle.nemo_ir.specs.Nodes.{Deed, Passes, Nothing, Does, deed_of, edge_at}
@@ -28,13 +29,17 @@ leaves stages e = passes (λ a. passes (λ b. not (a == b)) (stage_at stages e.t
 abbrev pub leaving : IrDag → List ℕ → ℕ → List IrEdge
 leaving dag stages v = filter (λ e. (e.from == v) && leaves stages e) dag.edges
 
-abbrev pub sink_by : Deed → Bool
-sink_by (Does t) = is_sink (Some t)
-sink_by Passes = false
-sink_by Nothing = false
+abbrev pub transform_in : Deed → Option Transform
+transform_in (Does t) = Some t
+transform_in Passes = None
+transform_in Nothing = None
+
+-- the transform that a vertex does, if it is an Op of one
+abbrev pub vertex_transform : FlatForm → IrVertex → Option Transform
+vertex_transform flat u = transform_in (deed_of flat.transforms u.kind)
 
 abbrev pub is_sink_vertex : FlatForm → IrVertex → Bool
-is_sink_vertex flat u = sink_by (deed_of flat.transforms u.kind)
+is_sink_vertex flat u = is_sink (vertex_transform flat u)
 
 abbrev pub is_any : {X : Type 0} → List X → Bool
 is_any [] = false

@@ -1,6 +1,6 @@
 -- The plan of a line with a uniform DAG.
 use Rattle.std.specs.Prelude.{◌≡◌, ◌≤◌, ℕ, zero, suc, List, [], ◌∷◌, length}
-use Rattle.nemo_base.specs.Numbered.{map_at}
+use Rattle.nemo_base.specs.Places.{map_at}
 use Rattle.nemo_base.specs.declared.annotation.Pattern.TheVariants.{OneToOne}
 use Rattle.nemo_ir.specs.Along.{below}
 use Rattle.nemo_ir.specs.Flat.{FlatForm, transform_of}

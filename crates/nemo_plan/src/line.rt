@@ -1,22 +1,52 @@
-ghost use Rattle.std.specs.Prelude.{◌≡◌, ◌≤◌, ◌∷◌, [], map, IfOk};
+ghost use Rattle.std.specs.Prelude.{◌≡◌, ◌≤◌, ◌∷◌, [], true, map, IfOk};
 ghost use Rattle.nemo_ir.specs.Along.{below};
+ghost use Rattle.nemo_ir.specs.Line.{IsLine};
+ghost use Rattle.nemo_ir.specs.Uniform.{is_uniform};
+ghost use Rattle.nemo_ir.specs.Valid.{Valid};
+ghost use Rattle.nemo_plan.specs.Kept.{IsPlan};
 ghost use Rattle.nemo_plan.specs.Line as spec;
 
 use nemo_base::{Class, Home, StageRow, TaskGraph, VertexRow};
+use nemo_ir::{FlatJob, IrDag};
 use nemo_value::{List, NoMemory};
 use std::alloc::Global;
 
+/// The stages and the graph of a uniform DAG of a line, which is one stage.
+pub(crate) fn cut(
+    alloc: Global,
+    flat: &FlatJob,
+    dag: &IrDag,
+) -> Result<(List<List<u32>>, TaskGraph), NoMemory>
+    requires valid { Valid flat.now dag.now }
+    requires line { IsLine flat.now }
+    requires uniform { is_uniform dag.now ≡ true }
+    ensures { IfOk result (λ both. IsPlan flat.now dag.now both.0 both.1) }
+{
+    let count = flat.vertices.len() as u32;
+    let tasks = dag.vertices.as_slice()[0].parallelism;
+    let stages = line_stages(alloc, count)?;
+    let graph = line_graph(alloc, count, tasks)?;
+    Ok((stages, graph))
+}
+
 /// The graph of a line of `count` vertices of `tasks` tasks each, which is one stage. The last vertex is a sink.
-pub(crate) fn line_graph(alloc: Global, count: u32, tasks: u32) -> Result<TaskGraph, NoMemory>
+fn line_graph(alloc: Global, count: u32, tasks: u32) -> Result<TaskGraph, NoMemory>
     requires { 1 ≤ count }
     ensures { IfOk result (λ g. g ≡ spec.line_graph count tasks) }
 {
-    let mut stages = List::new(alloc);
-    stages.push(line_stage(alloc, count - 1, tasks)?)?;
-    Ok(TaskGraph {
-        stages,
-        vertices: line_vertices(alloc, count, tasks)?,
-    })
+    let vertices = line_vertices(alloc, count, tasks)?;
+    let stages = line_rows(alloc, count - 1, tasks)?;
+    Ok(TaskGraph { stages, vertices })
+}
+
+/// The one stage, in a list.
+fn line_rows(alloc: Global, last: u32, tasks: u32) -> Result<List<StageRow>, NoMemory>
+    ensures { IfOk result (λ all. all ≡ record { class = Class.Transient; parallelism = tasks; rank = 0; blocks = last ∷ []; reads = [] } ∷ []) }
+{
+    let stage = line_stage(alloc, last, tasks)?;
+    let mut all = List::new(alloc);
+    all.push(stage)?;
+    Ok(all)
 }
 
 /// The one stage, in which the vertex `last` alone has blocks.
@@ -58,7 +88,7 @@ fn line_vertex(alloc: Global, is_last: bool, tasks: u32) -> VertexRow
 }
 
 /// The vertices of the one stage.
-pub(crate) fn line_stages(alloc: Global, count: u32) -> Result<List<List<u32>>, NoMemory>
+fn line_stages(alloc: Global, count: u32) -> Result<List<List<u32>>, NoMemory>
     ensures { IfOk result (λ all. all ≡ below count ∷ []) }
 {
     let mut stage = List::with_capacity(alloc, count as usize)?;

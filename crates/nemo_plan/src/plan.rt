@@ -1,5 +1,6 @@
 ghost use Rattle.std.specs.Prelude.{◌≡◌, ◌<◌, true, IfOk};
 ghost use Rattle.nemo_base.specs.Sound.{is_sound};
+ghost use Rattle.nemo_ir.specs.Flat.{IsFlat};
 ghost use Rattle.nemo_ir.specs.Line.{IsLine};
 ghost use Rattle.nemo_ir.specs.Rewrites.{Computes, IsLocal};
 ghost use Rattle.nemo_ir.specs.Uniform.{is_uniform};
@@ -8,7 +9,7 @@ ghost use Rattle.nemo_plan.specs.Form as form;
 ghost use Rattle.nemo_plan.specs.Graph.{vertices_of};
 ghost use Rattle.nemo_plan.specs.Stages.{count_stages, stages_of};
 
-use crate::line::{line_graph, line_stages};
+use crate::line::cut;
 use nemo_base::TaskGraph;
 use nemo_ir::{FlatJob, IrDag};
 use nemo_value::{List, NoMemory};
@@ -50,10 +51,7 @@ impl Plan {
         ensures computes { IfOk result (λ p. Computes p.flat p.dag) }
         ensures local { IfOk result (λ p. IsLocal p.flat p.dag) }
     {
-        let count = dag.vertices.len() as u32;
-        let stages = line_stages(alloc, count)?;
-        let tasks = dag.vertices.as_slice()[0].parallelism;
-        let graph = line_graph(alloc, count, tasks)?;
+        let (stages, graph) = cut(alloc, &flat, &dag)?;
         Ok(Plan {
             flat,
             dag,
@@ -71,7 +69,8 @@ impl Plan {
     }
 
     pub fn flat(&self) -> &FlatJob
-        ensures { result.now ≡ self.now.flat }
+        ensures flat { result.now ≡ self.now.flat }
+        ensures keeps { IsFlat self.now.flat }
     {
         &self.flat
     }

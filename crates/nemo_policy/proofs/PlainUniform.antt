@@ -6,7 +6,7 @@ use Rattle.std.proofs.lemmas.Option.{slice_get-map, slice_get_within}
 use Rattle.std.specs.Cmp.{first_so, second_so}
 use Rattle.std.specs.Cmp.Derive.{both_true}
 use Rattle.std.specs.List.{list_all, list_any}
-use Rattle.nemo_base.specs.Numbered.{map_at}
+use Rattle.nemo_base.specs.Places.{map_at}
 use Rattle.nemo_base.specs.declared.annotation.Class.TheVariants.{Transient}
 use Rattle.nemo_base.specs.declared.annotation.Pattern.{Pattern}
 use Rattle.nemo_transform.specs.Ports.{PortKind, Main, Keyed, Side, is_keyed, is_main, kinds_of}
@@ -29,8 +29,8 @@ use Rattle.nemo_ir.proofs.Places.{list_all-at}
 use Rattle.nemo_ir.proofs.Lines.{line_inputs}
 use Rattle.nemo_flat.proofs.LinePath.{IsPath, edges_from, line_start, path_edge, path_get}
 use Rattle.nemo_policy.specs.Main.{HasMainPorts, takes_main}
-use Rattle.nemo_policy.specs.Passes.{kind_into, pattern_by, plain_dag, set_pattern, set_tasks, tasks_at, tasks_for, tasks_of}
-use Rattle.nemo_policy.proofs.PlainValid.{tasks_get}
+use Rattle.nemo_policy.specs.Passes.{kind_into, pattern_by, plain_dag, set_pattern, set_tasks, parallelism_at, parallelism_for, parallelism_of}
+use Rattle.nemo_policy.proofs.PlainValid.{parallelism_get}
 
 ---- the transforms after the first
 
@@ -58,7 +58,7 @@ one_main flat f line main i x e =
     }
 
 -- such a vertex has as many tasks as the vertex before it
-same_tasks : (p before : ℕ) (t : Transform) → kinds_of t ≡ Main ∷ [] → tasks_for p before t ≡ before
+same_tasks : (p before : ℕ) (t : Transform) → kinds_of t ≡ Main ∷ [] → parallelism_for p before t ≡ before
 same_tasks p before (Source rows) h = cc
 same_tasks p before (Map out) h = refl
 same_tasks p before (Filter c) h = refl
@@ -80,10 +80,10 @@ tasks_op n x = record { kind = Op x.transform; class = Transient; parallelism = 
 op_there : (n : ℕ) (xs : List FlatVertex) (i : ℕ) (x : FlatVertex) → slice_get xs i ≡ Some x → slice_get (map (tasks_op n) xs) i ≡ Some (tasks_op n x)
 op_there n xs i x e = slice_get-map (tasks_op n) xs i ∙ ap (option_map (tasks_op n)) e
 
-tasks_there : (n : ℕ) (xs : List FlatVertex) (i : ℕ) → i < length xs → tasks_at (map (tasks_op n) xs) i ≡ n
+tasks_there : (n : ℕ) (xs : List FlatVertex) (i : ℕ) → i < length xs → parallelism_at (map (tasks_op n) xs) i ≡ n
 tasks_there n xs i h =
     let x = got xs i h in
-    tasks_get (map (tasks_op n) xs) i (tasks_op n x.0) (op_there n xs i x.0 x.1)
+    parallelism_get (map (tasks_op n) xs) i (tasks_op n x.0) (op_there n xs i x.0 x.1)
 
 -- the vertex of this number has the number before it as its producer, and one Main port
 record Follows (flat : FlatForm) (es : List IrEdge) (number : ℕ) (x : FlatVertex) : Type 0 where
@@ -98,9 +98,9 @@ one_more flat p n es ys x f =
     let back : suc from ≡ length ys = f.back in
     let t = f.takes in
     ap (λ m. record { kind = Op x.transform; class = Transient; parallelism = m })
-    (ap (λ k. tasks_of p (tasks_at done (producer (edge_at es k 0))) (deed_of flat.transforms (Op x.transform))) size
-    ∙ ap (λ o. tasks_of p (tasks_at done from) (deed_or o)) t.is
-    ∙ same_tasks p (tasks_at done from) t.transform t.main
+    (ap (λ k. parallelism_of p (parallelism_at done (producer (edge_at es k 0))) (deed_of flat.transforms (Op x.transform))) size
+    ∙ ap (λ o. parallelism_of p (parallelism_at done from) (deed_or o)) t.is
+    ∙ same_tasks p (parallelism_at done from) t.transform t.main
     ∙ tasks_there n ys from (omega arith))
 
 level_along : (flat : FlatForm) (p n : ℕ) (es : List IrEdge) (ys xs : List FlatVertex) → ((i : ℕ) (x : FlatVertex) → slice_get xs i ≡ Some x → Follows flat es (length ys + i) x)
@@ -123,7 +123,7 @@ record Level (flat : FlatForm) (p : ℕ) (es : List IrEdge) (xs : List FlatVerte
 level : (flat : FlatForm) (p : ℕ) (es : List IrEdge) (xs : List FlatVertex) → ((i : ℕ) (x : FlatVertex) → slice_get xs (suc i) ≡ Some x → Follows flat es (suc i) x) → Level flat p es xs
 level flat p es [] f = record { tasks = 1; is = refl }
 level flat p es (x ∷ xs) f =
-    let n = tasks_of p (tasks_at [] (producer (edge_at es 0 0))) (deed_of flat.transforms (Op x.transform)) in
+    let n = parallelism_of p (parallelism_at [] (producer (edge_at es 0 0))) (deed_of flat.transforms (Op x.transform)) in
     record {
       tasks = n;
       is = level_along flat p n es (x ∷ []) xs (λ i y e. let up : suc i ≡ length (x ∷ []) + i = omega arith in subst (λ k. Follows flat es k y) up (f i y e));
@@ -190,10 +190,10 @@ edges_uniform flat n f line main = list_all-map is_uniform_edge (set_pattern fla
         let target : slice_get us e.to ≡ Some (tasks_op n x.0) = ap (slice_get us) to ∙ op_there n flat.vertices (suc i) x.0 x.1 in
         let kind : kind_into flat e (slice_get us e.to) ≡ Some Main =
         ap (kind_into flat e) target ∙ ap (λ o. slice_get (kinds_in (deed_or o)) e.port) t.is ∙ ap (λ ks. slice_get ks e.port) t.main ∙ ap (slice_get (Main ∷ [])) s.port in
-        let same : (tasks_at us e.from == tasks_at us e.to) ≡ true =
-        eq-eqb (tasks_at us e.from) (tasks_at us e.to) (tasks_there n flat.vertices e.from (omega arith) ∙ sym (tasks_there n flat.vertices e.to (omega arith))) in
-        let pattern : is_one_to_one (pattern_by (tasks_at us e.from == tasks_at us e.to) e.pattern (kind_into flat e (slice_get us e.to))) ≡ true =
-        ap (λ o. is_one_to_one (pattern_by (tasks_at us e.from == tasks_at us e.to) e.pattern o)) kind ∙ one_to_one (tasks_at us e.from == tasks_at us e.to) e.pattern same in
+        let same : (parallelism_at us e.from == parallelism_at us e.to) ≡ true =
+        eq-eqb (parallelism_at us e.from) (parallelism_at us e.to) (tasks_there n flat.vertices e.from (omega arith) ∙ sym (tasks_there n flat.vertices e.to (omega arith))) in
+        let pattern : is_one_to_one (pattern_by (parallelism_at us e.from == parallelism_at us e.to) e.pattern (kind_into flat e (slice_get us e.to))) ≡ true =
+        ap (λ o. is_one_to_one (pattern_by (parallelism_at us e.from == parallelism_at us e.to) e.pattern o)) kind ∙ one_to_one (parallelism_at us e.from == parallelism_at us e.to) e.pattern same in
         let fetched : is_fetched e ≡ true = list_all-at is_fetched first i e g (all_fetched flat 0 flat.vertices) in
         both_true (both_true pattern (first_so (is_pull e.flow) (is_kept e.keep) fetched)) (second_so (is_pull e.flow) (is_kept e.keep) fetched)
 

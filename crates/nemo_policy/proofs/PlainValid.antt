@@ -11,15 +11,15 @@ use Rattle.nemo_ir.specs.declared.dag.IrVertex.{IrVertex}
 use Rattle.nemo_flat.specs.FirstDag.{op_of}
 use Rattle.nemo_ir.specs.Line.{IsLine}
 use Rattle.nemo_ir.proofs.Places.{same_item}
-use Rattle.nemo_policy.specs.Passes.{kind_into, pattern_by, plain_dag, set_pattern, set_tasks, tasks_at}
+use Rattle.nemo_policy.specs.Passes.{kind_into, pattern_by, plain_dag, set_pattern, set_tasks, parallelism_at}
 use Rattle.nemo_flat.proofs.LinePath.{IsPath, edges_from, line_start}
 use Rattle.nemo_flat.proofs.LineValid.{IsOps, Serves, ops_valid}
 use Rattle.nemo_policy.proofs.Vertices.{stand_along}
 
-pub tasks_get : (us : List IrVertex) (v : ℕ) (u : IrVertex) → slice_get us v ≡ Some u → tasks_at us v ≡ u.parallelism
-tasks_get [] v u g = cc
-tasks_get (w ∷ us) zero u g = ap (λ x. x.parallelism) (same_item w u g)
-tasks_get (w ∷ us) (suc v) u g = tasks_get us v u g
+pub parallelism_get : (us : List IrVertex) (v : ℕ) (u : IrVertex) → slice_get us v ≡ Some u → parallelism_at us v ≡ u.parallelism
+parallelism_get [] v u g = cc
+parallelism_get (w ∷ us) zero u g = ap (λ x. x.parallelism) (same_item w u g)
+parallelism_get (w ∷ us) (suc v) u g = parallelism_get us v u g
 
 taken : (level : Bool) (old : Pattern) (k : PortKind) → takes k (pattern_by level old (Some k)) ≡ true
 taken true old Main = refl
@@ -40,7 +40,7 @@ path_patterns flat us k (e ∷ es) h = (h.0, h.1, h.2, path_patterns flat us (su
 -- an edge has the pattern that set_patterns gives it
 pub record HasPattern (flat : FlatForm) (us : List IrVertex) (e : IrEdge) : Type 0 where
   pub old : Pattern
-  pub is : e.pattern ≡ pattern_by (tasks_at us e.from == tasks_at us e.to) old (kind_into flat e (slice_get us e.to))
+  pub is : e.pattern ≡ pattern_by (parallelism_at us e.from == parallelism_at us e.to) old (kind_into flat e (slice_get us e.to))
 
 patterned : (flat : FlatForm) (us : List IrVertex) (es : List IrEdge) (i : ℕ) (e : IrEdge) → slice_get (map (set_pattern flat us) es) i ≡ Some e → HasPattern flat us e
 patterned flat us [] i e g = cc
@@ -59,11 +59,11 @@ plain_is flat p f line some few =
       rep = refl;
       patterns = λ i e u w k g source target kind.
           let q = patterned flat us first i e g in
-          let level = tasks_at us e.from == tasks_at us e.to in
+          let level = parallelism_at us e.from == parallelism_at us e.to in
           let is : e.pattern ≡ pattern_by (u.parallelism == w.parallelism) q.old (Some k) =
           q.is ∙ ap (λ o. pattern_by level q.old (kind_into flat e o)) target ∙ ap (pattern_by level q.old) kind
-          ∙ ap (λ n. pattern_by (n == tasks_at us e.to) q.old (Some k)) (tasks_get us e.from u source)
-          ∙ ap (λ n. pattern_by (u.parallelism == n) q.old (Some k)) (tasks_get us e.to w target) in
+          ∙ ap (λ n. pattern_by (n == parallelism_at us e.to) q.old (Some k)) (parallelism_get us e.from u source)
+          ∙ ap (λ n. pattern_by (u.parallelism == n) q.old (Some k)) (parallelism_get us e.to w target) in
           subst (λ c. Serves c u.parallelism w.parallelism k) (sym is) (record { taken = taken (u.parallelism == w.parallelism) q.old k; level = leveled (u.parallelism == w.parallelism) q.old k });
     }
 

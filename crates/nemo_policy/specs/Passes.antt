@@ -15,8 +15,8 @@ use Rattle.nemo_ir.specs.declared.dag.IrVertex.{IrVertex}
 use Rattle.nemo_flat.specs.FirstDag.{first_dag}
 
 -- the parallelism of a vertex, and 1 where there is none
-abbrev pub tasks_at : List IrVertex → ℕ → ℕ
-tasks_at us v = tasks_in (slice_get us v)
+abbrev pub parallelism_at : List IrVertex → ℕ → ℕ
+parallelism_at us v = tasks_in (slice_get us v)
   where
     tasks_in : Option IrVertex → ℕ
     tasks_in (Some u) = u.parallelism
@@ -25,18 +25,18 @@ tasks_at us v = tasks_in (slice_get us v)
 ---- set_parallelism
 
 -- a source has no more tasks than rows, a vertex with a Keyed port has p, and any other has those of the vertex before it
-abbrev pub tasks_for : ℕ → ℕ → Transform → ℕ
-tasks_for p before (Source rows) = max 1 (min p (length rows))
-tasks_for p before t = if list_any is_keyed (kinds_of t) then p else before
+abbrev pub parallelism_for : ℕ → ℕ → Transform → ℕ
+parallelism_for p before (Source rows) = max 1 (min p (length rows))
+parallelism_for p before t = if list_any is_keyed (kinds_of t) then p else before
 
-abbrev pub tasks_of : ℕ → ℕ → Deed → ℕ
-tasks_of p before (Does t) = tasks_for p before t
-tasks_of p before Passes = before
-tasks_of p before Nothing = before
+abbrev pub parallelism_of : ℕ → ℕ → Deed → ℕ
+parallelism_of p before (Does t) = parallelism_for p before t
+parallelism_of p before Passes = before
+parallelism_of p before Nothing = before
 
 -- a vertex with its parallelism, after the vertices before it; the vertex before it is the producer on its port 0
 abbrev pub set_tasks : FlatForm → ℕ → List IrEdge → List IrVertex → IrVertex → IrVertex
-set_tasks flat p es done u = record u { parallelism = tasks_of p (tasks_at done (producer (edge_at es (length done) 0))) (deed_of flat.transforms u.kind) }
+set_tasks flat p es done u = record u { parallelism = parallelism_of p (parallelism_at done (producer (edge_at es (length done) 0))) (deed_of flat.transforms u.kind) }
 
 abbrev pub set_parallelism : FlatForm → ℕ → IrDag → IrDag
 set_parallelism flat p dag = record dag { vertices = along (set_tasks flat p dag.edges) [] dag.vertices }
@@ -60,7 +60,7 @@ kind_into flat e (Some u) = slice_get (kinds_in (deed_of flat.transforms u.kind)
 kind_into flat e None = None
 
 abbrev pub set_pattern : FlatForm → List IrVertex → IrEdge → IrEdge
-set_pattern flat us e = record e { pattern = pattern_by (tasks_at us e.from == tasks_at us e.to) e.pattern (kind_into flat e (slice_get us e.to)) }
+set_pattern flat us e = record e { pattern = pattern_by (parallelism_at us e.from == parallelism_at us e.to) e.pattern (kind_into flat e (slice_get us e.to)) }
 
 abbrev pub set_patterns : FlatForm → IrDag → IrDag
 set_patterns flat dag = record dag { edges = map (set_pattern flat dag.vertices) dag.edges }

@@ -1,9 +1,9 @@
-ghost use Rattle.std.specs.Prelude.{◌≡◌, ◌≤◌, [], length, IfOk};
+ghost use Rattle.std.specs.Prelude.{◌≡◌, ◌<◌, ◌≤◌, [], length, IfOk};
 ghost use Rattle.nemo_ir.specs.Along.{along};
 ghost use Rattle.nemo_ir.specs.Nodes.{deed_of, edge_at, producer};
 ghost use Rattle.nemo_policy.specs.Passes as spec;
 
-use nemo_ir::{FlatJob, IrDag, IrEdge, IrVertex, VertexKind};
+use nemo_ir::{DagIndex, FlatJob, IrDag, IrVertex, VertexKind};
 use nemo_transform::Transform;
 use nemo_value::{List, NoMemory};
 use std::alloc::Global;
@@ -19,12 +19,8 @@ pub(crate) fn set_parallelism(
     requires { p ≤ 64 }
     ensures { IfOk result (λ new. new ≡ spec.set_parallelism flat.now p dag) }
 {
-    let IrDag {
-        vertices,
-        edges,
-        rep,
-    } = dag;
-    let vertices = with_tasks(alloc, flat, vertices.as_slice(), edges.as_slice(), p)?;
+    let vertices = with_tasks(alloc, flat, &dag, p)?;
+    let IrDag { edges, rep, .. } = dag;
     Ok(IrDag {
         vertices,
         edges,
@@ -35,43 +31,36 @@ pub(crate) fn set_parallelism(
 fn with_tasks(
     alloc: Global,
     flat: &FlatJob,
-    vertices: &[IrVertex],
-    edges: &[IrEdge],
+    dag: &IrDag,
     p: u32,
 ) -> Result<List<IrVertex>, NoMemory>
     requires { p ≤ 64 }
-    ensures { IfOk result (λ all. all ≡ along (spec.set_tasks flat.now p edges.now) [] vertices.now) }
+    ensures { IfOk result (λ all. all ≡ along (spec.set_tasks flat.now p dag.now.edges) [] dag.now.vertices) }
 {
-    let mut all = List::with_capacity(alloc, vertices.len())?;
-    for u in vertices {
-        let parallelism = tasks_of(flat, u.kind, before(all.as_slice(), edges), p);
+    let index = DagIndex::new(alloc, dag)?;
+    let mut all = List::with_capacity(alloc, dag.vertices.len())?;
+    for u in dag.vertices.as_slice() {
+        let parallelism = parallelism_of(flat, u.kind, before(all.as_slice(), &index), p);
         all.push(IrVertex { parallelism, ..*u })?;
     }
     Ok(all)
 }
 
 /// The parallelism of the producer on port 0 of the vertex that comes after these.
-fn before(done: &[IrVertex], edges: &[IrEdge]) -> u32
-    ensures { result ≡ spec.tasks_at done.now (producer (edge_at edges.now (length done.now) 0)) }
+fn before(done: &[IrVertex], index: &DagIndex<'_>) -> u32
+    requires { length done.now < length index.now.vertices }
+    ensures { result ≡ spec.parallelism_at done.now (producer (edge_at index.now.edges (length done.now) 0)) }
 {
-    tasks_at(done, producer_of(edges, done.len()))
-}
-
-/// The producer on port 0 of a vertex; vertex 0 where it has none.
-fn producer_of(edges: &[IrEdge], to: usize) -> u32
-    ensures { result ≡ producer (edge_at edges.now to 0) }
-{
-    for e in edges {
-        if e.to as usize == to && e.port == 0 {
-            return e.from;
-        }
-    }
-    0
+    let producer = match index.in_edge(done.len(), 0) {
+        Some(e) => e.from,
+        None => 0,
+    };
+    parallelism_at(done, producer)
 }
 
 /// The parallelism of a vertex, and 1 where there is none.
-pub(crate) fn tasks_at(vertices: &[IrVertex], number: u32) -> u32
-    ensures { result ≡ spec.tasks_at vertices.now number }
+pub(crate) fn parallelism_at(vertices: &[IrVertex], number: u32) -> u32
+    ensures { result ≡ spec.parallelism_at vertices.now number }
 {
     match vertices.get(number as usize) {
         Some(u) => u.parallelism,
@@ -79,13 +68,13 @@ pub(crate) fn tasks_at(vertices: &[IrVertex], number: u32) -> u32
     }
 }
 
-fn tasks_of(flat: &FlatJob, kind: VertexKind, before: u32, p: u32) -> u32
+fn parallelism_of(flat: &FlatJob, kind: VertexKind, before: u32, p: u32) -> u32
     requires { p ≤ 64 }
-    ensures { result ≡ spec.tasks_of p before (deed_of flat.now.transforms kind) }
+    ensures { result ≡ spec.parallelism_of p before (deed_of flat.now.transforms kind) }
 {
     match kind {
         VertexKind::Op(number) => match flat.transforms.get(number as usize) {
-            Some(transform) => tasks_for(transform, before, p),
+            Some(transform) => parallelism_for(transform, before, p),
             None => before,
         },
         VertexKind::Relay | VertexKind::Trigger => before,
@@ -93,13 +82,19 @@ fn tasks_of(flat: &FlatJob, kind: VertexKind, before: u32, p: u32) -> u32
 }
 
 #[tactic(auto, using(crate::proofs::Keyless::no_keyed))]
-fn tasks_for(transform: &Transform, before: u32, p: u32) -> u32
+fn parallelism_for(transform: &Transform, before: u32, p: u32) -> u32
     requires { p ≤ 64 }
-    ensures { result ≡ spec.tasks_for p before transform.now }
+    ensures { result ≡ spec.parallelism_for p before transform.now }
 {
     match transform {
         Transform::Source { rows } => rows.len().min(p as usize).max(1) as u32,
         Transform::Reduce { .. } | Transform::Distinct | Transform::Join => p,
-        _ => before,
+        Transform::Map { .. }
+        | Transform::Filter { .. }
+        | Transform::Emit { .. }
+        | Transform::Words { .. }
+        | Transform::Union { .. }
+        | Transform::SideJoin
+        | Transform::Sink { .. } => before,
     }
 }

@@ -1,12 +1,10 @@
 ghost use Rattle.std.specs.Prelude.{◌≡◌, IfOk, map, slice_get};
-ghost use Rattle.nemo_ir.specs.Nodes.{deed_of, kinds_in};
 ghost use Rattle.nemo_policy.specs.Passes as spec;
-ghost use Rattle.nemo_transform.specs.Ports.{kinds_of};
 
-use crate::parallelism::tasks_at;
+use crate::parallelism::parallelism_at;
 use nemo_base::Pattern;
-use nemo_ir::{FlatJob, IrDag, IrEdge, IrVertex, VertexKind};
-use nemo_transform::Transform;
+use nemo_ir::{FlatJob, IrDag, IrEdge, IrVertex};
+use nemo_transform::PortKind;
 use nemo_value::{List, NoMemory};
 use std::alloc::Global;
 
@@ -15,12 +13,8 @@ use std::alloc::Global;
 pub(crate) fn set_patterns(alloc: Global, flat: &FlatJob, dag: IrDag) -> Result<IrDag, NoMemory>
     ensures { IfOk result (λ new. new ≡ spec.set_patterns flat.now dag) }
 {
-    let IrDag {
-        vertices,
-        edges,
-        rep,
-    } = dag;
-    let edges = with_patterns(alloc, flat, vertices.as_slice(), edges.as_slice())?;
+    let edges = with_patterns(alloc, flat, &dag)?;
+    let IrDag { vertices, rep, .. } = dag;
     Ok(IrDag {
         vertices,
         edges,
@@ -28,17 +22,12 @@ pub(crate) fn set_patterns(alloc: Global, flat: &FlatJob, dag: IrDag) -> Result<
     })
 }
 
-fn with_patterns(
-    alloc: Global,
-    flat: &FlatJob,
-    vertices: &[IrVertex],
-    edges: &[IrEdge],
-) -> Result<List<IrEdge>, NoMemory>
-    ensures { IfOk result (λ all. all ≡ map (spec.set_pattern flat.now vertices.now) edges.now) }
+fn with_patterns(alloc: Global, flat: &FlatJob, dag: &IrDag) -> Result<List<IrEdge>, NoMemory>
+    ensures { IfOk result (λ all. all ≡ map (spec.set_pattern flat.now dag.now.vertices) dag.now.edges) }
 {
-    let mut all = List::with_capacity(alloc, edges.len())?;
-    for e in edges {
-        all.push(with_pattern(flat, vertices, e))?;
+    let mut all = List::with_capacity(alloc, dag.edges.len())?;
+    for e in dag.edges.as_slice() {
+        all.push(with_pattern(flat, dag.vertices.as_slice(), e))?;
     }
     Ok(all)
 }
@@ -46,26 +35,29 @@ fn with_patterns(
 fn with_pattern(flat: &FlatJob, vertices: &[IrVertex], e: &IrEdge) -> IrEdge
     ensures { result ≡ spec.set_pattern flat.now vertices.now e.now }
 {
-    let level = tasks_at(vertices, e.from) == tasks_at(vertices, e.to);
-    let pattern = match vertices.get(e.to as usize) {
-        Some(u) => pattern_at(flat, u.kind, e.port, level, e.pattern),
-        None => e.pattern,
-    };
+    let level = parallelism_at(vertices, e.from) == parallelism_at(vertices, e.to);
+    let pattern = pattern_by(level, e.pattern, kind_into(flat, vertices, e));
     IrEdge { pattern, ..*e }
 }
 
-/// The pattern into a port of a vertex of this kind; the old one where it has no such port.
-fn pattern_at(flat: &FlatJob, kind: VertexKind, port: u32, level: bool, old: Pattern) -> Pattern
-    ensures { result ≡ spec.pattern_by level old (slice_get (kinds_in (deed_of flat.now.transforms kind)) port) }
+/// The kind of the port that an edge leads to, if there is one.
+fn kind_into(flat: &FlatJob, vertices: &[IrVertex], e: &IrEdge) -> Option<PortKind>
+    ensures { result ≡ spec.kind_into flat.now e.now (slice_get vertices.now e.now.to) }
+{
+    vertices
+        .get(e.to as usize)?
+        .port(flat.transforms.as_slice(), e.port)
+}
+
+/// The pattern into a port of this kind; the old one where there is no such port.
+fn pattern_by(level: bool, old: Pattern, kind: Option<PortKind>) -> Pattern
+    ensures { result ≡ spec.pattern_by level old kind }
 {
     match kind {
-        VertexKind::Op(number) => match flat.transforms.get(number as usize) {
-            Some(transform) => pattern_into(transform, port, level, old),
-            None => old,
-        },
-        VertexKind::Relay | VertexKind::Trigger => {
-            if port == 0 { into_main(level) } else { old }
-        }
+        Some(PortKind::Main) => into_main(level),
+        Some(PortKind::Keyed) => Pattern::Hash,
+        Some(PortKind::Side) => Pattern::Broadcast,
+        None => old,
     }
 }
 
@@ -76,22 +68,5 @@ fn into_main(level: bool) -> Pattern
         Pattern::OneToOne
     } else {
         Pattern::Spread
-    }
-}
-
-/// The pattern into a port of a transform; the old one where it has no such port.
-fn pattern_into(transform: &Transform, port: u32, level: bool, old: Pattern) -> Pattern
-    ensures { result ≡ spec.pattern_by level old (slice_get (kinds_of transform.now) port) }
-{
-    match transform {
-        Transform::Source { .. } => old,
-        Transform::Union { ports } if port < *ports => into_main(level),
-        Transform::Union { .. } => old,
-        Transform::Reduce { .. } | Transform::Distinct if port == 0 => Pattern::Hash,
-        Transform::Join if port < 2 => Pattern::Hash,
-        Transform::SideJoin if port == 1 => Pattern::Broadcast,
-        Transform::Reduce { .. } | Transform::Distinct | Transform::Join => old,
-        _ if port == 0 => into_main(level),
-        _ => old,
     }
 }

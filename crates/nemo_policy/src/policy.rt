@@ -33,7 +33,7 @@ pub fn apply_policy(
 {
     match policy {
         Policy::Plain => plain_dag(alloc, flat, p),
-        _ => unreachable!(),
+        Policy::Pado | Policy::Skew | Policy::PadoSkew => unreachable!(),
     }
 }
 

@@ -1,27 +1,31 @@
-ghost use Rattle.std.specs.Prelude.{◌≡◌, ◌<◌, ◌≤◌, ◌+◌, ◌++◌, ◌∷◌, [], true, length, IfOk, OnOk};
+ghost use Rattle.std.specs.Prelude.{◌≡◌, ◌<◌, ◌≤◌, ◌+◌, ◌++◌, ◌∷◌, [], true, Some, IsSome, length, IfOk, OnOk};
 ghost use Rattle.std.specs.List.{flat_map};
+ghost use Rattle.nemo_core.specs.State.{start_machine};
 ghost use Rattle.nemo_core.specs.declared.event.Outcome.{Outcome};
-ghost use Rattle.nemo_flat.specs.Flat.{IsChainForm};
-ghost use Rattle.nemo_ir.specs.Meaning.{flat_rows};
+ghost use Rattle.nemo_ir.specs.Meaning.{flat_faults, flat_rows};
 ghost use Rattle.nemo_ir.specs.Along.{below};
+ghost use Rattle.nemo_ir.specs.Line.{IsLine};
 ghost use Rattle.nemo_ir.specs.Uniform.{first_tasks, is_uniform};
 ghost use Rattle.nemo_laws.specs.Done.{IsDoneRun, IsRange};
-ghost use Rattle.nemo_laws.specs.Solo.{solo_log, task_rows, tasks_in, turn};
+ghost use Rattle.nemo_laws.specs.Solo.{IsOneStage, solo_log, task_rows, tasks_in, turn};
 ghost use Rattle.nemo_laws.specs.Written.{written};
-ghost use Rattle.nemo_replay.specs.Ready.{HasSink, IsOneSink, IsSolo, ready_core};
+ghost use Rattle.nemo_plan.specs.Form.{graph};
+ghost use Rattle.nemo_replay.specs.Ready.{end_name, one_sink, ready_core};
+ghost use Rattle.nemo_value.specs.Order.{record_cmp};
+ghost use Rattle.nemo_value.specs.Sorting.{sorted};
 
 use crate::compute::run_task;
-use crate::turn::{launch, slot_of, take};
+use crate::turn::{Run, launch, slot_of, take};
 use nemo_base::{ScriptLine, Settings};
 use nemo_core::{Core, Event, Outcome};
-use nemo_ir::IrDag;
+use nemo_ir::{FlatJob, IrDag};
 use nemo_plan::Plan;
 use nemo_transform::Transform;
-use nemo_value::{List, NoMemory, Record, SinkRows, TryCopy, sort_records};
+use nemo_value::{List, Name, NoMemory, Record, SinkRows, TryCopy, sort_records};
 use std::alloc::Global;
 
 /// How a run ended: its history, and, where it is done, its sinks by name, each with its rows in order.
-#[derive(Debug, Drop)]
+#[derive(Drop)]
 pub struct RunEnd {
     pub outcome: Outcome,
     pub log: List<Event>,
@@ -30,15 +34,17 @@ pub struct RunEnd {
 
 /// Runs a plan on one thread. Each turn launches the least task that may be launched, on the slot at the place of the
 /// launches so far among the slots that it fits on, computes it and commits it, until every block of the sinks is held.
-/// For now the plan is that of a chain with a uniform DAG, and the script is empty.
+/// The history is a function of the plan and the settings. For now the flat job is a line of which no fault reaches a
+/// sink, the DAG is uniform, and the script is empty.
 pub fn solo(
     alloc: Global,
     plan: &Plan,
     settings: Settings,
     script: List<ScriptLine>,
 ) -> Result<RunEnd, NoMemory>
-    requires chain { IsChainForm plan.now.flat }
+    requires line { IsLine plan.now.flat }
     requires uniform { is_uniform plan.now.dag ≡ true }
+    requires faultless { flat_faults plan.now.flat ≡ [] }
     requires range { IsRange settings }
     requires script { script ≡ [] }
     ensures run { IfOk result (λ end. IsDoneRun plan.now settings [] end.log) }
@@ -47,37 +53,79 @@ pub fn solo(
     ensures committed { IfOk result (λ end. end.sinks ≡ written plan.now settings end.log) }
     ensures sinks { IfOk result (λ end. end.sinks ≡ flat_rows plan.now.flat) }
 {
-    let _lines = script;
-    let mut core = Core::start(alloc, plan.graph(), settings)?;
-    let mut log = Vec::new(alloc);
-    let tasks = task_count(plan.dag());
-    let rows = run_all(alloc, plan, tasks, settings, &mut core, &mut log)?;
-    take(&mut core, &mut log, Event::Finish)?;
+    drop(script);
+    let mut run = begin(alloc, plan, settings)?;
+    let sinks = run_on(alloc, plan, settings, &mut run)?;
+    let Run { core, log } = run;
     Ok(RunEnd {
         outcome: core.outcome(),
         log: List::from_vec(log),
-        sinks: one_sink(alloc, plan.flat().transforms.as_slice(), rows)?,
+        sinks,
     })
 }
 
-/// The sink that the last transform is, with its rows in order.
-fn one_sink(
-    alloc: Global,
-    transforms: &[Transform],
-    rows: Vec<Record>,
-) -> Result<List<SinkRows>, NoMemory>
-    requires { HasSink transforms.now }
-    ensures { IfOk result (IsOneSink transforms.now rows.items) }
+/// A run of which nothing has happened.
+fn begin(alloc: Global, plan: &Plan, settings: Settings) -> Result<Run, NoMemory>
+    ensures core { IfOk result (λ run. run.core ≡ start_machine (graph plan.now) settings) }
+    ensures log { IfOk result (λ run. run.log.items ≡ []) }
 {
-    let Some(Transform::Sink { name }) = transforms.last() else {
+    let core = Core::start(alloc, plan.graph(), settings)?;
+    Ok(Run {
+        core,
+        log: Vec::new(alloc),
+    })
+}
+
+/// Runs to the end, and gives the sinks.
+fn run_on(
+    alloc: Global,
+    plan: &Plan,
+    settings: Settings,
+    run: &mut Run,
+) -> Result<List<SinkRows>, NoMemory>
+    requires line { IsLine plan.now.flat }
+    requires uniform { is_uniform plan.now.dag ≡ true }
+    requires faultless { flat_faults plan.now.flat ≡ [] }
+    requires range { IsRange settings }
+    requires start { run.old.core ≡ start_machine (graph plan.now) settings }
+    requires empty { run.old.log.items ≡ [] }
+    ensures run { OnOk result (IsDoneRun plan.now settings [] run.new.log.items) }
+    ensures outcome { OnOk result (run.new.core.state.outcome ≡ Outcome.Done) }
+    ensures log { OnOk result (run.new.log.items ≡ solo_log settings (tasks_in plan.now)) }
+    ensures committed { IfOk result (λ sinks. sinks ≡ written plan.now settings run.new.log.items) }
+    ensures sinks { IfOk result (λ sinks. sinks ≡ flat_rows plan.now.flat) }
+{
+    let flat = plan.flat();
+    let tasks = task_count(plan.dag());
+    let rows = run_all(alloc, plan, tasks, settings, run)?;
+    take(run, Event::Finish)?;
+    end_sink(alloc, flat, rows)
+}
+
+/// The sink that the last vertex is, with its rows in order.
+fn end_sink(alloc: Global, flat: &FlatJob, rows: Vec<Record>) -> Result<List<SinkRows>, NoMemory>
+    requires { IsSome (end_name flat.now) }
+    ensures { IfOk result (λ sinks. Some sinks ≡ one_sink flat.now rows.items) }
+{
+    let rows = sort_records(alloc, List::from_vec(rows))?;
+    let name = name_of_end(flat).copy(alloc)?;
+    let mut sinks = List::new(alloc);
+    sinks.push(SinkRows { name, rows })?;
+    Ok(sinks)
+}
+
+/// The name of the sink that the last vertex is.
+fn name_of_end(flat: &FlatJob) -> &Name
+    requires { IsSome (end_name flat.now) }
+    ensures { Some result.now ≡ end_name flat.now }
+{
+    let Some(last) = flat.vertices.as_slice().last() else {
         unreachable!();
     };
-    let mut sinks = List::new(alloc);
-    sinks.push(SinkRows {
-        name: name.copy(alloc)?,
-        rows: sort_records(alloc, List::from_vec(rows))?,
-    })?;
-    Ok(sinks)
+    let Some(Transform::Sink { name }) = flat.transforms.get(last.transform as usize) else {
+        unreachable!();
+    };
+    name
 }
 
 /// How many tasks the one stage of a uniform DAG has.
@@ -94,21 +142,20 @@ fn run_all(
     plan: &Plan,
     tasks: u32,
     settings: Settings,
-    core: &mut Core,
-    log: &mut Vec<Event>,
+    run: &mut Run,
 ) -> Result<Vec<Record>, NoMemory>
-    requires plan { IsSolo plan.now }
+    requires plan { IsOneStage plan.now }
     requires tasks { tasks ≡ tasks_in plan.now }
     requires range { IsRange settings }
-    requires start { core.old ≡ ready_core plan.now settings 0 }
-    requires empty { log.old.items ≡ [] }
-    ensures core { OnOk result (core.new ≡ ready_core plan.now settings (tasks_in plan.now)) }
-    ensures log { OnOk result (log.new.items ++ Event.Finish ∷ [] ≡ solo_log settings (tasks_in plan.now)) }
-    ensures rows { IfOk result (λ rows. rows.items ≡ flat_map (λ i. task_rows (tasks_in plan.now) i plan.now.flat.transforms []) (below (tasks_in plan.now))) }
+    requires start { run.old.core ≡ ready_core plan.now settings 0 }
+    requires empty { run.old.log.items ≡ [] }
+    ensures core { OnOk result (run.new.core ≡ ready_core plan.now settings (tasks_in plan.now)) }
+    ensures log { OnOk result (run.new.log.items ++ Event.Finish ∷ [] ≡ solo_log settings (tasks_in plan.now)) }
+    ensures rows { IfOk result (λ rows. rows.items ≡ flat_map (λ i. task_rows plan.now.flat (tasks_in plan.now) i plan.now.flat.vertices []) (below (tasks_in plan.now))) }
 {
     let mut rows = Vec::new(alloc);
     for task in 0..tasks {
-        let mut part = take_turn(alloc, plan, tasks, settings, core, log, task)?;
+        let mut part = take_turn(alloc, plan, tasks, settings, run, task)?;
         rows.append(&mut part)?;
     }
     Ok(rows)
@@ -120,28 +167,21 @@ fn take_turn(
     plan: &Plan,
     tasks: u32,
     settings: Settings,
-    core: &mut Core,
-    log: &mut Vec<Event>,
+    run: &mut Run,
     task: u32,
 ) -> Result<Vec<Record>, NoMemory>
-    requires plan { IsSolo plan.now }
+    requires plan { IsOneStage plan.now }
     requires tasks { tasks ≡ tasks_in plan.now }
     requires range { IsRange settings }
     requires within { task < tasks_in plan.now }
-    requires ready { core.old ≡ ready_core plan.now settings task }
-    ensures core { OnOk result (core.new ≡ ready_core plan.now settings (task + 1)) }
-    ensures log { OnOk result (log.new.items ≡ log.old.items ++ turn settings task) }
-    ensures rows { IfOk result (λ rows. rows.items ≡ task_rows (tasks_in plan.now) task plan.now.flat.transforms []) }
+    requires ready { run.old.core ≡ ready_core plan.now settings task }
+    ensures core { OnOk result (run.new.core ≡ ready_core plan.now settings (task + 1)) }
+    ensures log { OnOk result (run.new.log.items ≡ run.old.log.items ++ turn settings task) }
+    ensures rows { IfOk result (λ rows. rows.items ≡ task_rows plan.now.flat (tasks_in plan.now) task plan.now.flat.vertices []) }
 {
-    let launched = launch(alloc, core, log, slot_of(settings, task))?;
-    let transforms = plan.flat().transforms.as_slice();
-    let rows = run_task(alloc, transforms, launched.index, tasks)?;
-    take(
-        core,
-        log,
-        Event::Commit {
-            attempt: u64::from(task),
-        },
-    )?;
+    let launched = launch(alloc, run, slot_of(settings, task))?;
+    let rows = run_task(alloc, plan.flat(), launched.index, tasks)?;
+    let attempt = u64::from(task);
+    take(run, Event::Commit { attempt })?;
     Ok(rows)
 }

@@ -23,24 +23,26 @@ pub(crate) fn slot_of(settings: Settings, launches: u32) -> u32
     }
 }
 
+/// A run so far: the state that it is in, and its history.
+#[derive(Drop)]
+pub(crate) struct Run {
+    pub(crate) core: Core,
+    pub(crate) log: Vec<Event>,
+}
+
 /// Launches the least task that may be launched on the slot.
-pub(crate) fn launch(
-    alloc: Global,
-    core: &mut Core,
-    log: &mut Vec<Event>,
-    slot: u32,
-) -> Result<TaskId, NoMemory>
-    requires some { IsSome (launchable core.old slot) }
-    requires room { core.old.taken < 2 ^ 63 }
-    ensures task { IfOk result (λ task. launchable core.old slot ≡ Some task) }
-    ensures core { IfOk result (λ task. core.new ≡ stepped core.old (launch_of core.old task slot)) }
-    ensures log { IfOk result (λ task. log.new.items ≡ log.old.items ++ launch_of core.old task slot ∷ []) }
+pub(crate) fn launch(alloc: Global, run: &mut Run, slot: u32) -> Result<TaskId, NoMemory>
+    requires some { IsSome (launchable run.old.core slot) }
+    requires room { run.old.core.taken < 2 ^ 63 }
+    ensures task { IfOk result (λ task. launchable run.old.core slot ≡ Some task) }
+    ensures core { IfOk result (λ task. run.new.core ≡ stepped run.old.core (launch_of run.old.core task slot)) }
+    ensures log { IfOk result (λ task. run.new.log.items ≡ run.old.log.items ++ launch_of run.old.core task slot ∷ []) }
 {
-    let Some(task) = core.launchable(slot) else {
+    let Some(task) = run.core.launchable(slot) else {
         unreachable!();
     };
-    match core.launch_event(alloc, task, slot) {
-        Ok(event) => take(core, log, event)?,
+    match run.core.launch_event(alloc, task, slot) {
+        Ok(event) => take(run, event)?,
         Err(LaunchRefused::NoMemory) => return Err(NoMemory),
         Err(LaunchRefused::Refused(_)) => unreachable!(),
     }
@@ -48,16 +50,16 @@ pub(crate) fn launch(
 }
 
 /// Takes an event that is allowed, and logs it.
-pub(crate) fn take(core: &mut Core, log: &mut Vec<Event>, event: Event) -> Result<(), NoMemory>
+pub(crate) fn take(run: &mut Run, event: Event) -> Result<(), NoMemory>
     requires built { is_built event ≡ true }
-    requires allowed { refusal_in core.old event ≡ None }
-    requires room { core.old.taken < 2 ^ 63 }
-    ensures core { OnOk result (core.new ≡ stepped core.old event) }
-    ensures log { OnOk result (log.new.items ≡ log.old.items ++ event ∷ []) }
+    requires allowed { refusal_in run.old.core event ≡ None }
+    requires room { run.old.core.taken < 2 ^ 63 }
+    ensures core { OnOk result (run.new.core ≡ stepped run.old.core event) }
+    ensures log { OnOk result (run.new.log.items ≡ run.old.log.items ++ event ∷ []) }
 {
-    let Ok(()) = core.step(&event) else {
+    let Ok(()) = run.core.step(&event) else {
         unreachable!();
     };
-    log.push(event)?;
+    run.log.push(event)?;
     Ok(())
 }

@@ -8,7 +8,7 @@ use Rattle.nemo_replay.proofs.single.run_all.Given as goal
 -- the tasks so far have run
 abbrev pub invariant-loop-task : goal.invariant-loop-task
 invariant-loop-task l = record {
-  core : l.core ≡ ready_core l.plan l.settings l.task;
-  log : l.log.items ≡ flat_map (turn l.settings) (below l.task);
-  rows : l.rows.items ≡ flat_map (λ i. task_rows (tasks_in l.plan) i l.plan.flat.transforms []) (below l.task);
+  core : l.run.core ≡ ready_core l.plan l.settings l.task;
+  log : l.run.log.items ≡ flat_map (turn l.settings) (below l.task);
+  rows : l.rows.items ≡ flat_map (λ i. task_rows l.plan.flat (tasks_in l.plan) i l.plan.flat.vertices []) (below l.task);
 }
