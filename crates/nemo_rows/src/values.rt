@@ -152,7 +152,7 @@ fn answer(alloc: Global, value: Result<Field, EvalFault>) -> Result<Vec<u8>, NoM
     let text = match value {
         Ok(Field::Int(n)) => n.to_string(alloc)?,
         Ok(Field::Text(text)) => return numbered(alloc, "bytes ", text.as_str().len() as u64),
-        Err(EvalFault::Fault(kind)) => format!(in alloc; "{kind:?}")?,
+        Err(EvalFault::Fault(kind)) => kind.word().to_string(alloc)?,
         Err(EvalFault::NoMemory) => return Err(NoMemory),
     };
     Ok(text.into_bytes())
