@@ -1,9 +1,9 @@
 -- Each vertex that a walk gives fits where it stands, as all in its body do, and the rows of sources have fields.
-use Rattle.std.proofs.Common.{◌≡◌, ◌∙◌, ap, refl, subst, ℕ, zero, suc, ◌+◌, List, [], ◌∷◌, ◌++◌, length, map, Option, Some, None, true, Ok, Err}
+use Rattle.std.proofs.Common.{◌≡◌, ◌∙◌, ap, refl, subst, ℕ, zero, suc, ◌+◌, List, [], ◌∷◌, ◌++◌, length, map, Option, Some, None, true, Result, Ok, Err, IfOk}
 use Rattle.std.proofs.lemmas.List.Folds.{list_all-append}
 use Rattle.std.specs.Cmp.{first_so, second_so}
 use Rattle.std.specs.List.{list_all}
-use Rattle.serde_json.specs.Data.{Data, Items, no_items, item}
+use Rattle.serde_json.specs.Data.{Data, Items, no_items, item, depth}
 use Rattle.nemo_transform.specs.declared.transform.Transform.{Transform}
 use Rattle.nemo_job.proofs.Induction.{Each}
 use Rattle.nemo_job.proofs.Layers.{vertex_stands, op_works, loop_works}
@@ -14,10 +14,14 @@ use Rattle.nemo_job.specs.declared.vertex.JobVertex.{JobVertex}
 use Rattle.nemo_job.specs.declared.vertex.Ref.{Ref}
 use Rattle.nemo_job.specs.declared.vertex.Work.{Work}
 use Rattle.nemo_job.specs.declared.vertex.Work.TheVariants.{Op, Loop}
-use Rattle.nemo_bundle.specs.Answers.{on_ok}
-use Rattle.nemo_bundle.specs.Vertices.{Form, Does, Loops, Head, LoopForm, Walk, Walked, head_of, in_front, loop_around, vertex_by, vertex_from, vertex_within, walk}
-use Rattle.nemo_bundle.proofs.Fitting.{does_right, head_right, heads_right, is_right}
-use Rattle.nemo_bundle.proofs.Passing.{passes, both}
+use Rattle.nemo_bundle.specs.Answers.{Walks, on_ok}
+use Rattle.nemo_bundle.specs.Ends.{coded}
+use Rattle.nemo_bundle.specs.declared.end.Code.TheVariants.{VertexShape}
+use Rattle.nemo_bundle.specs.declared.end.WalkEnd.{WalkEnd}
+use Rattle.nemo_bundle.specs.Vertices.{Walk, Walked, in_front, vertex_at, vertex_by, vertex_from, vertex_within, walk, with_body}
+use Rattle.nemo_read.specs.Vertices.{Form, Does, Loops, Head, LoopForm, body_of, head_of, work_around}
+use Rattle.nemo_read.proofs.Fitting.{does_right, head_right, heads_right, is_right}
+use Rattle.nemo_read.proofs.Passing.{passes, both}
 
 -- a vertex that fits wherever it stands, with its body, and whose rows have fields
 record IsRight (v : JobVertex) : Type 0 where
@@ -55,6 +59,11 @@ loop_right name inputs l body h = record {
       ∙ fitting_after body h (map port_face l.carry) (depth + 1);
 }
 
+around_right : (name : List ℕ) (inputs : List Ref) (form : Form) (body : List JobVertex) → does_right name (length inputs) form ≡ true → Each IsRight body
+    → IsRight (vertex name inputs (work_around form body))
+around_right name inputs (Does t) body p h = op_right name inputs t p
+around_right name inputs (Loops l) body p h = loop_right name inputs l body h
+
 -- what a walk gives, where it gives something, is so
 abbrev Gives : {X : Type 0} → (X → Type 0) → Walk X → Type 0
 Gives P (Ok w) = P w.made
@@ -71,13 +80,12 @@ module _ (reads : ℕ → Data → Walk JobVertex) (right : (i : ℕ) (d : Data)
       then_gives IsRight (Each IsRight) (reads i d) (λ v. on_ok (walk reads v.next ds) (in_front v.made)) (right i d)
       (λ v h. then_gives (Each IsRight) (Each IsRight) (walk reads v.next ds) (in_front v.made) (walk_right v.next ds) (λ w k. (h, k)))
 
-  by_right : (i : ℕ) (name : List ℕ) (inputs : List Ref) (form : Form) → does_right name (length inputs) form ≡ true → Gives IsRight (vertex_by reads i name inputs form)
-  by_right i name inputs (Does t) h = op_right name inputs t h
-  by_right i name inputs (Loops l) h =
-      then_gives (Each IsRight) IsRight (walk reads (i + 1) l.body) (loop_around name inputs l) (walk_right (i + 1) l.body) (λ w k. loop_right name inputs l w.made k)
+  by_right : (h : Head) → head_right h ≡ true → (i : ℕ) → Gives IsRight (vertex_by reads (record { made = h; next = i }))
+  by_right h p i =
+      then_gives (Each IsRight) IsRight (walk reads i (body_of h.form)) (with_body h) (walk_right i (body_of h.form)) (λ w k. around_right h.name h.inputs h.form w.made p k)
 
   from_right : (i : ℕ) (o : Option Head) → passes head_right o ≡ true → Gives IsRight (vertex_from reads i o)
-  from_right i (Some h) p = by_right i h.name h.inputs h.form p
+  from_right i (Some h) p = by_right h p (i + 1)
   from_right i None p = tt
 
 within_right : (n i : ℕ) (d : Data) → Gives IsRight (vertex_within n i d)
@@ -85,9 +93,23 @@ unfolding vertex_within
 within_right zero i d = tt
 within_right (suc n) i d = from_right (vertex_within n) (within_right n) i (head_of d) (heads_right d)
 
--- the vertices that are read, with those of bodies
-pub vertices_fit : (n i : ℕ) (ds : Items) (w : Walked (List JobVertex)) → walk (vertex_within n) i ds ≡ Ok w → are_fitting w.made ≡ true
-vertices_fit n i ds w e = fitting_after w.made (subst (Gives (Each IsRight)) e (walk_right (vertex_within n) (within_right n) i ds)) [] 0
+at_right : (i : ℕ) (d : Data) → Gives IsRight (vertex_at i d)
+at_right i d = within_right (depth d) i d
 
-pub vertices_filled : (n i : ℕ) (ds : Items) (w : Walked (List JobVertex)) → walk (vertex_within n) i ds ≡ Ok w → list_all has_fields w.made ≡ true
-vertices_filled n i ds w e = filled_all w.made (subst (Gives (Each IsRight)) e (walk_right (vertex_within n) (within_right n) i ds))
+-- the vertices that are read, with those of bodies
+vertices_fit : (i : ℕ) (ds : Items) (w : Walked (List JobVertex)) → walk vertex_at i ds ≡ Ok w → are_fitting w.made ≡ true
+vertices_fit i ds w e = fitting_after w.made (subst (Gives (Each IsRight)) e (walk_right vertex_at at_right i ds)) [] 0
+
+vertices_filled : (i : ℕ) (ds : Items) (w : Walked (List JobVertex)) → walk vertex_at i ds ≡ Ok w → list_all has_fields w.made ≡ true
+vertices_filled i ds w e = filled_all w.made (subst (Gives (Each IsRight)) e (walk_right vertex_at at_right i ds))
+
+-- those that are read for a bundle
+pub listed_fit : (r : Result (List JobVertex) WalkEnd) (next i : ℕ) (ds : Items) → Walks {X = List JobVertex} {Y = Walked (List JobVertex)} (λ vs. record { made = vs; next = next }) r (walk vertex_at i ds)
+    → IfOk (coded VertexShape r) (λ vs. are_fitting vs ≡ true)
+listed_fit (Ok vs) next i ds h = vertices_fit i ds (record { made = vs; next = next }) h
+listed_fit (Err e) next i ds h = tt
+
+pub listed_filled : (r : Result (List JobVertex) WalkEnd) (next i : ℕ) (ds : Items) → Walks {X = List JobVertex} {Y = Walked (List JobVertex)} (λ vs. record { made = vs; next = next }) r (walk vertex_at i ds)
+    → IfOk (coded VertexShape r) (λ vs. list_all has_fields vs ≡ true)
+listed_filled (Ok vs) next i ds h = vertices_filled i ds (record { made = vs; next = next }) h
+listed_filled (Err e) next i ds h = tt

@@ -1,24 +1,15 @@
 -- Lists that are read item by item.
-use Rattle.std.proofs.Common.{◌≡◌, refl, sym, ap, ◌∙◌, ℕ, ◌++◌, ◌+◌, ◌<◌, length, get_or, drop, ◌∷◌, [], List, append_assoc, Option, Some, None, Result, Ok, Err}
+use Rattle.std.proofs.Common.{◌≡◌, refl, sym, ap, ◌∙◌, ℕ, ◌++◌, ◌+◌, ◌<◌, length, get_or, drop, ◌∷◌, [], List, append_assoc, Some, Result, Ok, Err}
 use Rattle.std.proofs.lemmas.List.{at_drop_more}
 use Rattle.serde_json.specs.Data.{item}
 use Rattle.serde_json.specs.View.{items_view, view}
 use Rattle.serde_json.specs.declared.value.Value.{Value}
 use Rattle.nemo_base.specs.declared.script.ScriptLine.{ScriptLine}
 use Rattle.nemo_job.specs.declared.vertex.JobVertex.{JobVertex}
-use Rattle.nemo_bundle.specs.Parts.{put_first, with_first}
+use Rattle.nemo_bundle.specs.Entries.{put_first}
 use Rattle.nemo_bundle.specs.Scripts.{line_of, lines_from}
 use Rattle.nemo_bundle.specs.Vertices.{Walk}
 use Rattle.nemo_bundle.specs.declared.choices.Cluster.{Cluster}
-
--- items in front of the others, where the others are there
-abbrev pub with_front : {X : Type 0} → List X → Option (List X) → Option (List X)
-with_front xs (Some ys) = Some (xs ++ ys)
-with_front xs None = None
-
-pub with_front_more : {X : Type 0} (xs : List X) (x : X) (others : Option (List X)) → with_front (xs ++ x ∷ []) others ≡ with_front xs (with_first (Some x) others)
-with_front_more xs x (Some ys) = simp append_assoc
-with_front_more xs x None = refl
 
 -- items in front of the others, where the others are there; else the others' place
 abbrev pub put_front : {X : Type 0} → List X → Result (List X) ℕ → Result (List X) ℕ

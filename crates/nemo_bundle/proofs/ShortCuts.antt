@@ -3,8 +3,8 @@ use Rattle.std.proofs.Common.{◌≡◌, refl, sym, ap, ◌∙◌, ◌+◌, ◌^
 use Rattle.serde_json.specs.Data.{Data, Items, no_items, item}
 use Rattle.serde_json.specs.Find.{as_array}
 use Rattle.nemo_base.specs.Cuts.{bad_cut}
-use Rattle.nemo_bundle.specs.Parts.{array_of, each, number_of, tested, with_first}
-use Rattle.nemo_bundle.specs.Scripts.{are_cuts, cuts_of, short_of}
+use Rattle.nemo_read.specs.Parts.{array_of, each, number_of, short_of, tested, with_first}
+use Rattle.nemo_bundle.specs.Scripts.{are_cuts, cuts_of}
 
 -- whether the cuts from place i on, after this one, are cuts
 abbrev are_from : ℕ → ℕ → List ℕ → Bool

@@ -1,32 +1,23 @@
 -- What a reader answers, beside want of memory.
-use Rattle.std.specs.Prelude.{◌≡◌, ◌^◌, ◌-◌, ℕ, min, Option, Some, None, Result, Ok, Err}
+use Rattle.std.specs.Prelude.{◌≡◌, ◌^◌, ◌-◌, ℕ, min, Result, Ok, Err}
+use Rattle.nemo_bundle.specs.Ends.{number}
 use Rattle.nemo_bundle.specs.declared.end.BundleEnd.{BundleEnd}
 use Rattle.nemo_bundle.specs.declared.end.BundleEnd.TheVariants.{Refused, NoMemory}
-use Rattle.nemo_bundle.specs.declared.end.PartEnd.{PartEnd}
-use Rattle.nemo_bundle.specs.declared.end.PartEnd.TheVariants as part
+use Rattle.nemo_bundle.specs.declared.end.Code.{Code}
 use Rattle.nemo_bundle.specs.declared.end.WalkEnd.{WalkEnd}
 use Rattle.nemo_bundle.specs.declared.end.WalkEnd.TheVariants as walk
-
 -- why a value is refused, and where
-pub record Refusal : Type 0 where
-  pub code : ℕ
-  pub place : ℕ
+pub use Rattle.nemo_job.specs.Refusals.{Refusal}
 
 -- a code at a place; one beyond 2^64-1 is given as 2^64-1
-abbrev pub refused : ℕ → ℕ → Refusal
-refused code place = record { code = code; place = min place (2 ^ 64 - 1) }
+abbrev pub refused : Code → ℕ → Refusal
+refused code place = record { code = number code; place = min place (2 ^ 64 - 1) }
 
 -- the answer is what the definition gives, or memory ran out
 abbrev pub Gives : {X : Type 0} → Result X BundleEnd → Result X Refusal → Type 0
 Gives (Ok x) r = r ≡ Ok x
 Gives (Err (Refused code place)) r = r ≡ Err (record { code = code; place = place })
 Gives (Err NoMemory) r = Unit {0}
-
--- the answer is what the value stands for, where it stands for something, or memory ran out
-abbrev pub Reads : {X : Type 0} → Result X PartEnd → Option X → Type 0
-Reads (Ok x) o = o ≡ Some x
-Reads (Err part.Malformed) o = o ≡ None
-Reads (Err part.NoMemory) o = Unit {0}
 
 -- the answer is what the walk gives, or the number of the first vertex that has not its form, where one beyond 2^64-1 is
 -- given as that, or memory ran out

@@ -6,7 +6,7 @@ use Rattle.nemo_base.specs.declared.annotation.Policy.{Policy}
 use Rattle.nemo_base.specs.declared.annotation.Policy.TheVariants.{Plain, Pado, Skew, PadoSkew}
 use Rattle.nemo_base.specs.declared.settings.Settings.{Settings}
 use Rattle.nemo_value.specs.Texts.{same_text}
-use Rattle.nemo_bundle.specs.Parts.{member_of, number_of, ranged, tested}
+use Rattle.nemo_read.specs.Parts.{member_of, number_of, ranged, tested}
 use Rattle.nemo_bundle.specs.declared.choices.Choices.{Choices}
 use Rattle.nemo_bundle.specs.declared.choices.Cluster.{Cluster}
 

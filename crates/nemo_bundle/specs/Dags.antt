@@ -17,8 +17,12 @@ use Rattle.nemo_ir.specs.declared.dag.VertexKind.{VertexKind}
 use Rattle.nemo_ir.specs.declared.dag.VertexKind.TheVariants.{Op, Relay, Trigger}
 use Rattle.nemo_ir.specs.declared.flat.FlatVertex.{FlatVertex}
 use Rattle.nemo_value.specs.Texts.{same_text}
+use Rattle.nemo_read.specs.Calls.{Worded, call_of}
+use Rattle.nemo_read.specs.Parts.{member_of, number_of}
 use Rattle.nemo_bundle.specs.Answers.{Refusal, on_ok, refused}
-use Rattle.nemo_bundle.specs.Parts.{items_at, member_of, number_of}
+use Rattle.nemo_bundle.specs.Entries.{items_at}
+use Rattle.nemo_bundle.specs.declared.end.Code.{Code}
+use Rattle.nemo_bundle.specs.declared.end.Code.TheVariants.{DagVertex, DagEdge, DagRep}
 
 ---- vertices
 
@@ -47,18 +51,18 @@ utility_of word =
     else (if same_text word (codes "trigger") then Some Trigger
     else None)
 
--- `["op",x,class,tasks]`
-abbrev pub op_of : List FlatVertex → Data → Data → Data → List ℕ → Option IrVertex
-op_of flat x class tasks word = if same_text word (codes "op") then op_with (option_and_then (op_at flat) (number_of x)) class tasks else None
+-- `["relay",class,tasks]` or `["trigger",class,tasks]`, or `["op",x,class,tasks]`
+abbrev pub entry_from : List FlatVertex → Items → List ℕ → Option IrVertex
+entry_from flat (item class (item tasks no_items)) word = op_with (utility_of word) class tasks
+entry_from flat (item x (item class (item tasks no_items))) word =
+    if same_text word (codes "op") then op_with (option_and_then (op_at flat) (number_of x)) class tasks else None
+entry_from flat _ word = None
 
--- that, or `["relay",class,tasks]` or `["trigger",class,tasks]`
-abbrev pub entry_from : List FlatVertex → Items → Option IrVertex
-entry_from flat (item word (item class (item tasks no_items))) = op_with (option_and_then utility_of (as_str word)) class tasks
-entry_from flat (item word (item x (item class (item tasks no_items)))) = option_and_then (op_of flat x class tasks) (as_str word)
-entry_from flat _ = None
+abbrev pub entry_by : List FlatVertex → Worded → Option IrVertex
+entry_by flat call = entry_from flat call.args call.word
 
 abbrev pub entry_of : List FlatVertex → ℕ → Data → Option IrVertex
-entry_of flat i d = option_and_then (entry_from flat) (as_array d)
+entry_of flat i d = option_and_then (entry_by flat) (call_of d)
 
 ---- edges
 
@@ -93,9 +97,11 @@ Way = Pattern × Flow × Keep
 abbrev pub ends_of : Data → Data → Data → Option Ends
 ends_of from to port = option_and_then (λ f. option_and_then (λ t. option_map (λ p. (f, t, p)) (number_of port)) (number_of to)) (number_of from)
 
-abbrev pub way_of : Data → Data → Data → Option Way
-way_of pattern flow keep =
+-- a pattern, a flow and a keep
+abbrev pub way_of : Items → Option Way
+way_of (item pattern (item flow (item keep no_items))) =
     option_and_then (λ p. option_and_then (λ f. option_map (λ k. (p, f, k)) (option_and_then keep_of (as_str keep))) (option_and_then flow_of (as_str flow))) (option_and_then pattern_of (as_str pattern))
+way_of _ = None
 
 abbrev pub edge_with : Option Ends → Option Way → Option IrEdge
 edge_with (Some e) (Some w) = Some (record { from = e.0; to = e.1; port = e.2; pattern = w.0; flow = w.1; keep = w.2 })
@@ -104,7 +110,7 @@ edge_with None w = None
 
 -- `[from,to,port,pattern,flow,keep]`
 abbrev pub edge_from : Items → Option IrEdge
-edge_from (item from (item to (item port (item pattern (item flow (item keep no_items)))))) = edge_with (ends_of from to port) (way_of pattern flow keep)
+edge_from (item from (item to (item port way))) = edge_with (ends_of from to port) (way_of way)
 edge_from _ = None
 
 abbrev pub edge_of : ℕ → Data → Option IrEdge
@@ -113,17 +119,17 @@ edge_of i d = option_and_then edge_from (as_array d)
 ---- DAGs
 
 -- what the array of a member holds, or the refusal of this code at its first entry that can't be read
-abbrev pub at_code : {X : Type 0} → ℕ → Result X ℕ → Result X Refusal
+abbrev pub at_code : {X : Type 0} → Code → Result X ℕ → Result X Refusal
 at_code code (Ok x) = Ok x
 at_code code (Err place) = Err (refused code place)
 
-abbrev pub entries_of : {X : Type 0} → ℕ → List ℕ → (ℕ → Data → Option X) → Data → Result (List X) Refusal
+abbrev pub entries_of : {X : Type 0} → Code → List ℕ → (ℕ → Data → Option X) → Data → Result (List X) Refusal
 entries_of code name reads d = at_code code (items_at reads (member_of name as_array d))
 
--- the arrays `vertices`, `edges` and `rep`, for a flat job of these vertices: codes 13, 14 and 15
+-- the arrays `vertices`, `edges` and `rep`, for a flat job of these vertices
 abbrev pub dag_of : List FlatVertex → Data → Result IrDag Refusal
 dag_of flat d =
-    on_ok (entries_of 13 (codes "vertices") (entry_of flat) d) (λ vertices. on_ok (entries_of 14 (codes "edges") edge_of d) (λ edges. on_ok (entries_of 15 (codes "rep") (λ i. number_of) d) (λ rep.
+    on_ok (entries_of DagVertex (codes "vertices") (entry_of flat) d) (λ vertices. on_ok (entries_of DagEdge (codes "edges") edge_of d) (λ edges. on_ok (entries_of DagRep (codes "rep") (λ i. number_of) d) (λ rep.
     Ok (record { vertices = vertices; edges = edges; rep = rep }))))
 
 abbrev pub proposed : Result IrDag Refusal → Result (Option IrDag) Refusal

@@ -2,10 +2,8 @@ pub mod Answers
 pub mod Choices
 pub mod Dags
 pub mod Ends
-pub mod Exprs
+pub mod Entries
 pub mod Given
-pub mod Heads
-pub mod Parts
 pub mod Read
 pub mod Scripts
 pub mod Vertices

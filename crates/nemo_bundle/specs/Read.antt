@@ -6,18 +6,18 @@ use Rattle.nemo_base.specs.declared.settings.Settings.{Settings}
 use Rattle.nemo_flat.specs.Counts.{copies}
 use Rattle.nemo_flat.specs.Flattened.{flattened}
 use Rattle.nemo_ir.specs.declared.flat.FlatVertex.{FlatVertex}
-use Rattle.nemo_job.specs.Refusals as job
 use Rattle.nemo_job.specs.Refusals.{refusal_of}
 use Rattle.nemo_job.specs.declared.vertex.JobVertex.{JobVertex}
+use Rattle.nemo_read.specs.Parts.{is_exactly, member_of, whole_of}
 use Rattle.nemo_bundle.specs.Answers.{Refusal, on_ok, refused}
 use Rattle.nemo_bundle.specs.Choices.{choices_of}
 use Rattle.nemo_bundle.specs.Dags.{at_code, dag_in}
-use Rattle.nemo_bundle.specs.Parts.{is_exactly, member_of, whole_of}
 use Rattle.nemo_bundle.specs.Scripts.{schedule_in, script_in}
 use Rattle.nemo_bundle.specs.Vertices.{Walk, vertices_in}
 use Rattle.nemo_bundle.specs.declared.bundle.Bundle.{Bundle}
 use Rattle.nemo_bundle.specs.declared.bundle.Members.{Members}
 use Rattle.nemo_bundle.specs.declared.choices.Cluster.{Cluster}
+use Rattle.nemo_bundle.specs.declared.end.Code.TheVariants.{Top, VertexShape, TooMany, Setting, ScriptLine, Step}
 
 -- code 1: the value is no object, or `nemo` isn't 1
 abbrev pub has_version : Data → Bool
@@ -26,23 +26,23 @@ has_version d = is_exactly 1 (member_of (codes "nemo") whole_of d)
 -- code 2: `job` is absent or no array, or a vertex has not its form
 abbrev pub walked : Walk (List JobVertex) → Result (List JobVertex) Refusal
 walked (Ok w) = Ok w.made
-walked (Err i) = Err (refused 2 i)
+walked (Err i) = Err (refused VertexShape i)
 
 abbrev pub vertices_of : Option Items → Result (List JobVertex) Refusal
 vertices_of (Some items) = walked (vertices_in items)
-vertices_of None = Err (refused 2 0)
+vertices_of None = Err (refused VertexShape 0)
 
 abbrev pub job_of : Data → Result (List JobVertex) Refusal
 job_of d = vertices_of (member_of (codes "job") as_array d)
 
 -- codes 3 to 8: the vertices are no job
-abbrev pub accepted : List JobVertex → Option job.Refusal → Result (List JobVertex) Refusal
-accepted vs (Some r) = Err (record { code = r.code; place = r.place })
+abbrev pub accepted : List JobVertex → Option Refusal → Result (List JobVertex) Refusal
+accepted vs (Some r) = Err r
 accepted vs None = Ok vs
 
 -- code 9: more than 512 copies
 abbrev pub counted : List JobVertex → Result (List JobVertex) Refusal
-counted vs = if nat_le (copies vs) 512 then Ok vs else Err (refused 9 (copies vs))
+counted vs = if nat_le (copies vs) 512 then Ok vs else Err (refused TooMany (copies vs))
 
 -- the slots of a run
 abbrev pub cluster_of : Settings → Cluster
@@ -51,8 +51,8 @@ cluster_of settings = record { reserved = settings.reserved; transient = setting
 -- codes 10 to 15: the members beside the job, for a flat job of these vertices
 abbrev pub members_of : Data → List FlatVertex → Result Members Refusal
 members_of d flat =
-    on_ok (at_code 10 (choices_of d)) (λ c. on_ok (at_code 11 (script_in (cluster_of c.settings) (get (codes "script") d))) (λ script.
-    on_ok (at_code 12 (schedule_in (get (codes "schedule") d))) (λ schedule. on_ok (dag_in flat (get (codes "dag") d)) (λ dag.
+    on_ok (at_code Setting (choices_of d)) (λ c. on_ok (at_code ScriptLine (script_in (cluster_of c.settings) (get (codes "script") d))) (λ script.
+    on_ok (at_code Step (schedule_in (get (codes "schedule") d))) (λ schedule. on_ok (dag_in flat (get (codes "dag") d)) (λ dag.
     Ok (record { choices = c; script = script; schedule = schedule; dag = dag })))))
 
 abbrev pub bundle_with : List JobVertex → Members → Bundle
@@ -69,7 +69,7 @@ bundle_with vs m = record {
 
 -- codes 1 to 8
 abbrev pub accepted_job : Data → Result (List JobVertex) Refusal
-accepted_job d = if has_version d then on_ok (job_of d) (λ vs. accepted vs (refusal_of vs)) else Err (refused 1 0)
+accepted_job d = if has_version d then on_ok (job_of d) (λ vs. accepted vs (refusal_of vs)) else Err (refused Top 0)
 
 -- the first code that fails
 abbrev pub bundle_of : Data → Result Bundle Refusal

@@ -11,7 +11,9 @@ use Rattle.nemo_base.specs.declared.script.Action.{Action}
 use Rattle.nemo_base.specs.declared.script.Action.TheVariants.{Evict, Repartition}
 use Rattle.nemo_base.specs.declared.script.ScriptLine.{ScriptLine}
 use Rattle.nemo_value.specs.Texts.{same_text}
-use Rattle.nemo_bundle.specs.Parts.{array_of, is_word, items_at, number_of, put_first, ranged, tested}
+use Rattle.nemo_read.specs.Calls.{Worded, call_of}
+use Rattle.nemo_read.specs.Parts.{array_of, is_word, number_of, ranged, tested}
+use Rattle.nemo_bundle.specs.Entries.{items_at, put_first}
 use Rattle.nemo_bundle.specs.declared.choices.Cluster.{Cluster}
 
 -- numbers that are cuts
@@ -20,10 +22,6 @@ are_cuts cuts = is_none (bad_cut 0 0 cuts)
 
 abbrev pub cuts_of : Data → Option (List ℕ)
 cuts_of d = tested are_cuts (array_of number_of d)
-
--- a whole number of 16 bits, which each cut is
-abbrev pub short_of : Data → Option ℕ
-short_of d = tested (λ n. nat_lt n (2 ^ 16)) (number_of d)
 
 ---- the script
 
@@ -77,15 +75,6 @@ script_in c None = Ok []
 
 ---- the schedule
 
-abbrev pub on_one : (ℕ → Move) → Data → Option Move
-on_one f a = option_map f (number_of a)
-
-abbrev pub on_both : (ℕ → ℕ → Move) → Data → Data → Option Move
-on_both f a b = option_and_then (λ n. option_map (f n) (number_of b)) (number_of a)
-
-abbrev pub on_three : (ℕ → ℕ → ℕ → Move) → Data → Data → Data → Option Move
-on_three f a b c = option_and_then (λ n. on_both (f n) b c) (number_of a)
-
 abbrev pub task_at : ℕ → ℕ → TaskId
 task_at stage index = record { stage = stage; index = index }
 
@@ -97,40 +86,56 @@ abbrev pub move_alone : List ℕ → Option Move
 move_alone word = if same_text word (codes "finish") then Some move.Finish else None
 
 -- a word and one number
-abbrev pub move_by_one : Data → List ℕ → Option Move
-move_by_one a word =
-    if same_text word (codes "compute") then on_one move.Compute a
-    else (if same_text word (codes "commit") then on_one move.Report a
-    else (if same_text word (codes "end") then on_one move.End a
-    else (if same_text word (codes "giveback") then on_one move.GiveBack a
-    else (if same_text word (codes "evict") then on_one move.Evict a
-    else (if same_text word (codes "decide") then on_one move.Decide a
+abbrev pub move_by_one : List ℕ → ℕ → Option Move
+move_by_one word n =
+    if same_text word (codes "compute") then Some (move.Compute n)
+    else (if same_text word (codes "commit") then Some (move.Report n)
+    else (if same_text word (codes "end") then Some (move.End n)
+    else (if same_text word (codes "giveback") then Some (move.GiveBack n)
+    else (if same_text word (codes "evict") then Some (move.Evict n)
+    else (if same_text word (codes "decide") then Some (move.Decide n)
     else None)))))
 
--- a word and two
-abbrev pub move_by_two : Data → Data → List ℕ → Option Move
-move_by_two a b word =
-    if same_text word (codes "push") then on_both move.Push a b
-    else (if same_text word (codes "drop") then on_both (λ vertex task. move.Drop (block_at vertex task)) a b
-    else (if same_text word (codes "spent") then on_both (λ stage index. move.Spent (task_at stage index)) a b
-    else (if same_text word (codes "repartition") then option_and_then (λ vertex. option_map (move.Repartition vertex) (cuts_of b)) (number_of a)
-    else None)))
+-- a word and two numbers
+abbrev pub move_by_two : List ℕ → ℕ → ℕ → Option Move
+move_by_two word n m =
+    if same_text word (codes "push") then Some (move.Push n m)
+    else (if same_text word (codes "drop") then Some (move.Drop (block_at n m))
+    else (if same_text word (codes "spent") then Some (move.Spent (task_at n m))
+    else None))
 
--- a word and three
-abbrev pub move_by_three : Data → Data → Data → List ℕ → Option Move
-move_by_three a b c word =
-    if same_text word (codes "launch") then on_three (λ stage index slot. move.Launch (task_at stage index) slot) a b c else None
+-- a word and three numbers
+abbrev pub move_by_three : List ℕ → ℕ → ℕ → ℕ → Option Move
+move_by_three word n m k = if same_text word (codes "launch") then Some (move.Launch (task_at n m) k) else None
 
-abbrev pub move_from : Items → Option Move
-move_from (item word no_items) = option_and_then move_alone (as_str word)
-move_from (item word (item a no_items)) = option_and_then (move_by_one a) (as_str word)
-move_from (item word (item a (item b no_items))) = option_and_then (move_by_two a b) (as_str word)
-move_from (item word (item a (item b (item c no_items)))) = option_and_then (move_by_three a b c) (as_str word)
-move_from _ = None
+-- a vertex and its cuts
+abbrev pub move_by_cuts : Data → Data → Option Move
+move_by_cuts vertex cuts = option_and_then (λ v. option_map (move.Repartition v) (cuts_of cuts)) (number_of vertex)
+
+abbrev pub numbers_of : Data → Data → Option (ℕ × ℕ)
+numbers_of a b = option_and_then (λ n. option_map (λ m. (n, m)) (number_of b)) (number_of a)
+
+abbrev pub move_with_two : List ℕ → Data → Data → Option Move
+move_with_two word a b =
+    if same_text word (codes "repartition") then move_by_cuts a b
+    else option_and_then (λ p. move_by_two word p.0 p.1) (numbers_of a b)
+
+abbrev pub move_with_three : List ℕ → Data → Data → Data → Option Move
+move_with_three word a b c = option_and_then (λ p. option_and_then (move_by_three word p.0 p.1) (number_of c)) (numbers_of a b)
+
+abbrev pub move_from : Items → List ℕ → Option Move
+move_from no_items word = move_alone word
+move_from (item a no_items) word = option_and_then (move_by_one word) (number_of a)
+move_from (item a (item b no_items)) word = move_with_two word a b
+move_from (item a (item b (item c no_items))) word = move_with_three word a b c
+move_from _ word = None
+
+abbrev pub move_by : Worded → Option Move
+move_by call = move_from call.args call.word
 
 -- move i, which is one of the first 65,536
 abbrev pub move_of : ℕ → Data → Option Move
-move_of i d = tested (λ _. nat_lt i 65536) (option_and_then move_from (as_array d))
+move_of i d = tested (λ _. nat_lt i 65536) (option_and_then move_by (call_of d))
 
 -- the member `schedule`, which may be absent
 abbrev pub schedule_in : Option Data → Result (List Move) ℕ

@@ -14,7 +14,7 @@ ghost use Rattle.nemo_bundle.specs.Read as spec;
 
 use crate::choices::{Choices, Cluster, read_choices};
 use crate::dags::read_dag;
-use crate::end::{BundleEnd, NO_JOB, OTHER_VERSION};
+use crate::end::{BundleEnd, Code, coded};
 use crate::schedules::read_schedule;
 use crate::scripts::read_script;
 use crate::walk::{MAX_DEPTH, read_vertices};
@@ -28,7 +28,7 @@ use std::alloc::Global;
 
 /// What a bundle asks for: a job and its flat job, the slots and limits of a run, how many tasks a vertex may have, the
 /// policy, the DAG that is proposed if one is, and what is to happen in a run and in a replay.
-#[derive(Debug, Drop)]
+#[derive(Drop)]
 pub struct Bundle {
     pub job: Job,
     pub flat: FlatJob,
@@ -81,7 +81,7 @@ fn accepted_job(alloc: Global, value: &Value) -> Result<Job, BundleEnd>
     ensures filled { IfOk result (λ job. list_all has_fields job ≡ true) }
 {
     if !has_version(value) {
-        return Err(OTHER_VERSION);
+        return Err(Code::Top.at(0));
     }
     let vertices = read_list(alloc, value)?;
     Ok(Job::new(alloc, vertices.into_vec())?)
@@ -97,21 +97,19 @@ fn has_version(value: &Value) -> bool
     value.get("nemo").and_then(Value::as_i64) == Some(VERSION)
 }
 
-/// The code of vertices that have not their form.
-const VERTEX_SHAPE: u32 = 2;
-
 /// The vertices of `job`.
 fn read_list(alloc: Global, value: &Value) -> Result<List<JobVertex>, BundleEnd>
     ensures job { Gives result (job_of (view value.now)) }
     ensures fitting { IfOk result (λ vs. are_fitting vs ≡ true) }
     ensures filled { IfOk result (λ vs. list_all has_fields vs ≡ true) }
 {
-    let items = value.get("job").and_then(Value::as_array).ok_or(NO_JOB)?;
+    let items = value
+        .get("job")
+        .and_then(Value::as_array)
+        .ok_or(Code::VertexShape.at(0))?;
     let mut count = 0;
-    match read_vertices(alloc, items.as_slice(), &mut count, MAX_DEPTH) {
-        Ok(vertices) => Ok(vertices),
-        Err(end) => Err(end.with(VERTEX_SHAPE)),
-    }
+    let vertices = read_vertices(alloc, items.as_slice(), &mut count, MAX_DEPTH);
+    coded(Code::VertexShape, vertices)
 }
 
 /// What stands beside the job.
@@ -123,12 +121,6 @@ struct Members {
     dag: Option<IrDag>,
 }
 
-const SETTING: u32 = 10;
-
-const SCRIPT_LINE: u32 = 11;
-
-const STEP: u32 = 12;
-
 /// The members beside the job, for a flat job of these vertices, or the refusal of codes 10 to 15.
 fn read_members(alloc: Global, value: &Value, flat: &[FlatVertex]) -> Result<Members, BundleEnd>
     ensures members { Gives result (spec.members_of (view value.now) flat.now) }
@@ -136,13 +128,13 @@ fn read_members(alloc: Global, value: &Value, flat: &[FlatVertex]) -> Result<Mem
     ensures settings { IfOk result (λ m. AreInRange m.choices.settings) }
     ensures given { IfOk result (λ m. is_some m.dag ≡ is_some (get (codes "dag") (view value.now))) }
 {
-    let choices = read_choices(alloc, value).map_err(|e| e.with(SETTING))?;
+    let choices = coded(Code::Setting, read_choices(alloc, value))?;
     let cluster = Cluster {
         reserved: choices.settings.reserved,
         transient: choices.settings.transient,
     };
-    let script = read_script(alloc, cluster, value).map_err(|e| e.with(SCRIPT_LINE))?;
-    let schedule = read_schedule(alloc, value).map_err(|e| e.with(STEP))?;
+    let script = coded(Code::ScriptLine, read_script(alloc, cluster, value))?;
+    let schedule = coded(Code::Step, read_schedule(alloc, value))?;
     let dag = read_dag(alloc, value, flat)?;
     Ok(Members {
         choices,

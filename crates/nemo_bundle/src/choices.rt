@@ -1,24 +1,24 @@
 ghost use Rattle.std.specs.Prelude.{◌≡◌, ◌≤◌, ◌+◌, IfOk, option_map};
 ghost use Rattle.serde_json.specs.View.{view};
-ghost use Rattle.nemo_bundle.specs.Answers.{Reads, Walks};
+ghost use Rattle.nemo_read.specs.Answers.{Reads};
+ghost use Rattle.nemo_bundle.specs.Answers.{Walks};
 ghost use Rattle.nemo_bundle.specs.Choices as spec;
 
-use crate::end::{PartEnd, WalkEnd};
-use crate::parts::read_ranged;
-use crate::read::{FromJson, read_member};
+use crate::end::{WalkEnd, placed};
 use nemo_base::{Policy, Settings};
+use nemo_read::{PartEnd, read_member, read_ranged};
 use serde_json::Value;
 use std::alloc::Global;
 
 /// The slots of a run: those from 0 are reserved, the following ones transient.
-#[derive(Clone, Copy, Debug, PartialEq, Eq)]
+#[derive(Clone, Copy)]
 pub(crate) struct Cluster {
     pub(crate) reserved: u32,
     pub(crate) transient: u32,
 }
 
 /// What a bundle says of its run.
-#[derive(Clone, Copy, Debug, PartialEq, Eq)]
+#[derive(Clone, Copy)]
 pub(crate) struct Choices {
     pub(crate) parallelism: u32,
     pub(crate) policy: Policy,
@@ -72,9 +72,9 @@ pub(crate) fn read_choices(alloc: Global, value: &Value) -> Result<Choices, Walk
     ensures choices { Walks (λ c. c) result (spec.choices_of (view value.now)) }
     ensures range { IfOk result (λ c. (1 ≤ c.parallelism) × (c.parallelism ≤ 64) × spec.AreInRange c.settings) }
 {
-    let cluster = read_cluster(alloc, value.get("cluster")).map_err(|e| e.at(0))?;
-    let parallelism = read_number(alloc, value.get("parallelism"), TASKS).map_err(|e| e.at(1))?;
-    let policy = read_policy(value.get("policy")).map_err(|e| e.at(2))?;
+    let cluster = placed(0, read_cluster(alloc, value.get("cluster")))?;
+    let parallelism = placed(1, read_number(alloc, value.get("parallelism"), TASKS))?;
+    let policy = placed(2, read_policy(value.get("policy")))?;
     let settings = read_settings(alloc, cluster, value.get("settings"))?;
     Ok(Choices {
         parallelism,
@@ -151,10 +151,10 @@ fn read_settings(
     ensures settings { Walks (λ s. s) result (spec.settings_of cluster (option_map (λ v. view v.now) member.entry)) }
     ensures range { IfOk result (λ s. spec.AreInRange s) }
 {
-    let loss_bound = read_loss_bound(alloc, member).map_err(|e| e.at(3))?;
-    let piece = read_setting(alloc, member, "piece", PIECE).map_err(|e| e.at(4))?;
-    let sample = read_setting(alloc, member, "sample", SAMPLE).map_err(|e| e.at(5))?;
-    let decoded = read_setting(alloc, member, "decoded", DECODED).map_err(|e| e.at(6))?;
+    let loss_bound = placed(3, read_loss_bound(alloc, member))?;
+    let piece = placed(4, read_setting(alloc, member, "piece", PIECE))?;
+    let sample = placed(5, read_setting(alloc, member, "sample", SAMPLE))?;
+    let decoded = placed(6, read_setting(alloc, member, "decoded", DECODED))?;
     Ok(Settings {
         reserved: cluster.reserved,
         transient: cluster.transient,

@@ -1,15 +1,16 @@
 ghost use Rattle.std.specs.Prelude.{◌≡◌, Some, IfOk, codes, is_some, option_and_then};
 ghost use Rattle.serde_json.specs.Find.{get};
 ghost use Rattle.serde_json.specs.View.{view, items_view};
-ghost use Rattle.nemo_bundle.specs.Answers.{Gives, Reads};
+ghost use Rattle.nemo_read.specs.Answers.{Reads};
+ghost use Rattle.nemo_read.specs.Parts as parts;
+ghost use Rattle.nemo_bundle.specs.Answers.{Gives};
 ghost use Rattle.nemo_bundle.specs.Dags as spec;
-ghost use Rattle.nemo_bundle.specs.Parts as parts;
 
-use crate::end::{BundleEnd, PartEnd};
-use crate::parts::is_word;
-use crate::read::{FromJson, ReadAt, read_items_at};
+use crate::end::{BundleEnd, Code, coded};
+use crate::entries::{ReadAt, read_items_at};
 use nemo_base::{Class, Flow, Keep, Pattern};
 use nemo_ir::{FlatVertex, IrDag, IrEdge, IrVertex, VertexKind};
+use nemo_read::{Call, FromJson, PartEnd};
 use nemo_value::List;
 use serde_json::Value;
 use std::alloc::Global;
@@ -33,9 +34,15 @@ fn read_proposed(alloc: Global, value: &Value, flat: &[FlatVertex]) -> Result<Ir
     ensures { Gives result (spec.dag_of flat.now (view value.now)) }
 {
     Ok(IrDag {
-        vertices: read_entries(alloc, value, "vertices", &Vertices { flat }, 13)?,
-        edges: read_entries(alloc, value, "edges", &Edges, 14)?,
-        rep: read_entries(alloc, value, "rep", &Rep, 15)?,
+        vertices: read_entries(
+            alloc,
+            value,
+            "vertices",
+            &Vertices { flat },
+            Code::DagVertex,
+        )?,
+        edges: read_entries(alloc, value, "edges", &Edges, Code::DagEdge)?,
+        rep: read_entries(alloc, value, "rep", &Rep, Code::DagRep)?,
     })
 }
 
@@ -45,15 +52,12 @@ fn read_entries<R: ReadAt>(
     value: &Value,
     name: &str,
     reader: &R,
-    code: u32,
+    code: Code,
 ) -> Result<List<R::Item>, BundleEnd>
     ensures { Gives result (spec.entries_of code name.now (R.reads reader.now) (view value.now)) }
 {
-    let items = value
-        .get(name)
-        .and_then(Value::as_array)
-        .ok_or(BundleEnd::Refused { code, place: 0 })?;
-    read_items_at(alloc, reader, items.as_slice()).map_err(|e| e.with(code))
+    let items = value.get(name).and_then(Value::as_array).ok_or(code.at(0))?;
+    coded(code, read_items_at(alloc, reader, items.as_slice()))
 }
 
 /// Reads the vertices of a DAG for a flat job of these vertices.
@@ -70,35 +74,42 @@ impl ReadAt for Vertices<'_> {
     ghost reads = { λ r. entry_of r.flat.now };
 
     fn read_at(&self, alloc: Global, _place: usize, value: &Value) -> Result<IrVertex, PartEnd> {
-        read_vertex(
-            alloc,
-            value.as_array().ok_or(PartEnd::Malformed)?.as_slice(),
-            self.flat,
-        )
+        let call = Call::of(value).ok_or(PartEnd::Malformed)?;
+        read_vertex(alloc, call.word, call.args, self.flat)
     }
 }
 
+/// The vertex of a word and what stands behind it.
 #[tactic(auto, using(crate::proofs::Lengths::entry_of_fewer, crate::proofs::Lengths::entry_of_more))]
-fn read_vertex(alloc: Global, items: &[Value], flat: &[FlatVertex]) -> Result<IrVertex, PartEnd>
-    ensures { Reads result (spec.entry_from flat.now (items_view items.now)) }
+fn read_vertex(
+    alloc: Global,
+    word: &str,
+    args: &[Value],
+    flat: &[FlatVertex],
+) -> Result<IrVertex, PartEnd>
+    ensures { Reads result (spec.entry_from flat.now (items_view args.now) word.now) }
 {
-    match items {
-        [word, class, tasks] => {
-            let kind = word
-                .as_str()
-                .and_then(utility_of)
-                .ok_or(PartEnd::Malformed)?;
-            with_kind(alloc, kind, class, tasks)
-        }
-        [word, x, class, tasks] => {
-            if is_word(word, "op") {
-                with_kind(alloc, read_op(alloc, x, flat)?, class, tasks)
-            } else {
-                Err(PartEnd::Malformed)
-            }
-        }
+    match args {
+        [class, tasks] => read_utility(alloc, word, class, tasks),
+        [x, class, tasks] => match word {
+            "op" => with_kind(alloc, read_op(alloc, x, flat)?, class, tasks),
+            _ => Err(PartEnd::Malformed),
+        },
         _ => Err(PartEnd::Malformed),
     }
+}
+
+/// The utility vertex of a word.
+fn read_utility(
+    alloc: Global,
+    word: &str,
+    class: &Value,
+    tasks: &Value,
+) -> Result<IrVertex, PartEnd>
+    ensures { Reads result (spec.op_with (spec.utility_of word.now) (view class.now) (view tasks.now)) }
+{
+    let kind = utility_of(word).ok_or(PartEnd::Malformed)?;
+    with_kind(alloc, kind, class, tasks)
 }
 
 fn with_kind(
@@ -164,23 +175,55 @@ impl ReadAt for Edges {
     }
 }
 
-#[tactic(auto, using(crate::proofs::Lengths::edge_of_fewer, crate::proofs::Lengths::edge_of_more))]
+#[tactic(auto, using(crate::proofs::Lengths::edge_of_fewer))]
 fn read_edge(alloc: Global, items: &[Value]) -> Result<IrEdge, PartEnd>
     ensures { Reads result (spec.edge_from (items_view items.now)) }
 {
     match items {
-        [from, to, port, pattern, flow, keep] => Ok(IrEdge {
-            from: u32::from_json(alloc, from)?,
-            to: u32::from_json(alloc, to)?,
-            port: u32::from_json(alloc, port)?,
-            pattern: pattern
-                .as_str()
-                .and_then(pattern_of)
-                .ok_or(PartEnd::Malformed)?,
-            flow: flow.as_str().and_then(flow_of).ok_or(PartEnd::Malformed)?,
-            keep: keep.as_str().and_then(keep_of).ok_or(PartEnd::Malformed)?,
-        }),
+        [from, to, port, way @ ..] => {
+            let (from, to, port) = read_ends(alloc, from, to, port)?;
+            let (pattern, flow, keep) = way_of(way).ok_or(PartEnd::Malformed)?;
+            Ok(IrEdge {
+                from,
+                to,
+                port,
+                pattern,
+                flow,
+                keep,
+            })
+        }
         _ => Err(PartEnd::Malformed),
+    }
+}
+
+/// Where an edge leads.
+fn read_ends(
+    alloc: Global,
+    from: &Value,
+    to: &Value,
+    port: &Value,
+) -> Result<(u32, u32, u32), PartEnd>
+    ensures { Reads result (spec.ends_of (view from.now) (view to.now) (view port.now)) }
+{
+    Ok((
+        u32::from_json(alloc, from)?,
+        u32::from_json(alloc, to)?,
+        u32::from_json(alloc, port)?,
+    ))
+}
+
+/// How the rows of an edge go.
+#[tactic(auto, using(crate::proofs::Lengths::way_of_fewer, crate::proofs::Lengths::way_of_more))]
+fn way_of(items: &[Value]) -> Option<(Pattern, Flow, Keep)>
+    ensures { result ≡ spec.way_of (items_view items.now) }
+{
+    match items {
+        [pattern, flow, keep] => Some((
+            pattern_of(pattern.as_str()?)?,
+            flow_of(flow.as_str()?)?,
+            keep_of(keep.as_str()?)?,
+        )),
+        _ => None,
     }
 }
 
@@ -221,7 +264,7 @@ fn keep_of(word: &str) -> Option<Keep>
 struct Rep;
 
 impl ReadAt for Rep {
-    ghost use Rattle.nemo_bundle.specs.Parts.{number_of};
+    ghost use Rattle.nemo_read.specs.Parts.{number_of};
 
     type Item = u32;
 

@@ -1,11 +1,15 @@
+ghost use Rattle.std.specs.Prelude.{◌≡◌};
+ghost use Rattle.nemo_bundle.specs.Ends as spec;
+
 use nemo_flat::FlattenRefused;
 use nemo_job::JobRefused;
+use nemo_read::PartEnd;
 use nemo_value::NoMemory;
 use thiserror::Error;
 
 /// Why a value gives no bundle: it is refused, with the code of the reason and the place where it stands, or no
 /// memory was left.
-#[derive(Clone, Copy, Debug, PartialEq, Eq, Error)]
+#[derive(Debug, Clone, Copy, Error)]
 pub enum BundleEnd {
     #[error("bundle refused {code} {place}")]
     Refused { code: u32, place: u64 },
@@ -13,11 +17,50 @@ pub enum BundleEnd {
     NoMemory,
 }
 
-/// The value is no object, or its version isn't the one that there is.
-pub(crate) const OTHER_VERSION: BundleEnd = BundleEnd::Refused { code: 1, place: 0 };
+/// What fails, where it is no rule of jobs: those have codes 3 to 8.
+#[derive(Clone, Copy)]
+pub(crate) enum Code {
+    /// The value is no object, or its version isn't the one that there is.
+    Top,
+    /// A vertex has not its form, or there is no array of vertices.
+    VertexShape,
+    /// There are too many copies.
+    TooMany,
+    Setting,
+    ScriptLine,
+    Step,
+    DagVertex,
+    DagEdge,
+    DagRep,
+}
 
-/// There is no array of vertices.
-pub(crate) const NO_JOB: BundleEnd = BundleEnd::Refused { code: 2, place: 0 };
+impl Code {
+    pub fn number(self) -> u32
+        ensures { result ≡ spec.number self }
+    {
+        match self {
+            Code::Top => 1,
+            Code::VertexShape => 2,
+            Code::TooMany => 9,
+            Code::Setting => 10,
+            Code::ScriptLine => 11,
+            Code::Step => 12,
+            Code::DagVertex => 13,
+            Code::DagEdge => 14,
+            Code::DagRep => 15,
+        }
+    }
+
+    /// The refusal with this code, at this place.
+    pub fn at(self, place: u64) -> BundleEnd
+        ensures { result ≡ spec.refused_at self place }
+    {
+        BundleEnd::Refused {
+            code: self.number(),
+            place,
+        }
+    }
+}
 
 impl From<NoMemory> for BundleEnd {
     ghost use Rattle.std.specs.Prelude.{◌≡◌};
@@ -45,7 +88,7 @@ impl From<JobRefused> for BundleEnd {
     }
 }
 
-/// Code 9: the job has too many copies, whose number is the place.
+/// The job has too many copies, whose number is the place.
 impl From<FlattenRefused> for BundleEnd {
     ghost use Rattle.std.specs.Prelude.{◌≡◌};
     ghost use Rattle.nemo_bundle.specs.Ends.{end_of_flat};
@@ -54,50 +97,14 @@ impl From<FlattenRefused> for BundleEnd {
 
     fn from(refused: FlattenRefused) -> BundleEnd {
         match refused {
-            FlattenRefused::TooMany { count } => BundleEnd::Refused {
-                code: 9,
-                place: count,
-            },
+            FlattenRefused::TooMany { count } => Code::TooMany.at(count),
             FlattenRefused::NoMemory => BundleEnd::NoMemory,
         }
     }
 }
 
-/// Why a part of a value can't be read: it has not its form, or no memory was left.
-#[derive(Clone, Copy, Debug, PartialEq, Eq)]
-pub(crate) enum PartEnd {
-    Malformed,
-    NoMemory,
-}
-
-impl From<NoMemory> for PartEnd {
-    ghost use Rattle.std.specs.Prelude.{◌≡◌};
-    ghost use Rattle.nemo_bundle.specs.declared.end.PartEnd.TheVariants.{NoMemory};
-
-    ghost from_gives = { λ _ e. e ≡ NoMemory };
-
-    fn from(_e: NoMemory) -> PartEnd {
-        PartEnd::NoMemory
-    }
-}
-
-impl PartEnd {
-    ghost use Rattle.std.specs.Prelude.{◌≡◌};
-    ghost use Rattle.nemo_bundle.specs.Ends as spec;
-
-    /// What this means where it comes at this place.
-    pub fn at(self, place: u64) -> WalkEnd
-        ensures { result ≡ spec.end_at place self }
-    {
-        match self {
-            PartEnd::Malformed => WalkEnd::Malformed { place },
-            PartEnd::NoMemory => WalkEnd::NoMemory,
-        }
-    }
-}
-
 /// Why what has places can't be read: the first thing that has not its form, by its place, or no memory was left.
-#[derive(Clone, Copy, Debug, PartialEq, Eq)]
+#[derive(Clone, Copy)]
 pub(crate) enum WalkEnd {
     Malformed { place: u64 },
     NoMemory,
@@ -114,17 +121,24 @@ impl From<NoMemory> for WalkEnd {
     }
 }
 
-impl WalkEnd {
-    ghost use Rattle.std.specs.Prelude.{◌≡◌};
-    ghost use Rattle.nemo_bundle.specs.Ends as spec;
+/// What was read at this place.
+pub(crate) fn placed<T: Drop>(place: u64, read: Result<T, PartEnd>) -> Result<T, WalkEnd>
+    ensures { result ≡ spec.placed place read }
+{
+    match read {
+        Ok(item) => Ok(item),
+        Err(PartEnd::Malformed) => Err(WalkEnd::Malformed { place }),
+        Err(PartEnd::NoMemory) => Err(WalkEnd::NoMemory),
+    }
+}
 
-    /// What this means for a bundle that is refused with this code.
-    pub fn with(self, code: u32) -> BundleEnd
-        ensures { result ≡ spec.end_with code self }
-    {
-        match self {
-            WalkEnd::Malformed { place } => BundleEnd::Refused { code, place },
-            WalkEnd::NoMemory => BundleEnd::NoMemory,
-        }
+/// What was read for a bundle that is refused with this code where it can't be.
+pub(crate) fn coded<T: Drop>(code: Code, read: Result<T, WalkEnd>) -> Result<T, BundleEnd>
+    ensures { result ≡ spec.coded code read }
+{
+    match read {
+        Ok(all) => Ok(all),
+        Err(WalkEnd::Malformed { place }) => Err(code.at(place)),
+        Err(WalkEnd::NoMemory) => Err(BundleEnd::NoMemory),
     }
 }

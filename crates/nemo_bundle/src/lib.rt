@@ -5,13 +5,10 @@ mod bundle;
 mod choices;
 mod dags;
 mod end;
+mod entries;
 mod given;
-mod head;
-mod parts;
-mod read;
 mod schedules;
 mod scripts;
-mod vertices;
 mod walk;
 
 pub use bundle::{Bundle, read_bundle, read_job};

@@ -1,14 +1,15 @@
-ghost use Rattle.std.specs.Prelude.{◌≡◌, codes, option_and_then, option_map};
+ghost use Rattle.std.specs.Prelude.{◌≡◌, codes};
 ghost use Rattle.serde_json.specs.Find.{get};
 ghost use Rattle.serde_json.specs.View.{view, items_view};
-ghost use Rattle.nemo_bundle.specs.Answers.{Reads, Walks};
-ghost use Rattle.nemo_bundle.specs.Parts.{number_of};
+ghost use Rattle.nemo_read.specs.Answers.{Reads};
+ghost use Rattle.nemo_bundle.specs.Answers.{Walks};
 ghost use Rattle.nemo_bundle.specs.Scripts as spec;
 
-use crate::end::{PartEnd, WalkEnd};
-use crate::read::{FromJson, ReadAt, read_items_at};
+use crate::end::WalkEnd;
+use crate::entries::{ReadAt, read_items_at};
 use crate::scripts::read_cuts;
 use nemo_base::{BlockId, Move, TaskId};
+use nemo_read::{Call, FromJson, PartEnd};
 use nemo_value::List;
 use serde_json::Value;
 use std::alloc::Global;
@@ -41,8 +42,8 @@ impl ReadAt for Moves {
     ghost reads = { λ _. move_of };
 
     fn read_at(&self, alloc: Global, place: usize, value: &Value) -> Result<Move, PartEnd> {
-        let items = value.as_array().ok_or(PartEnd::Malformed)?;
-        let read = read_move(alloc, items.as_slice())?;
+        let call = Call::of(value).ok_or(PartEnd::Malformed)?;
+        let read = read_move(alloc, call.word, call.args)?;
         if place < MAX_MOVES {
             Ok(read)
         } else {
@@ -51,109 +52,108 @@ impl ReadAt for Moves {
     }
 }
 
-/// A word and its numbers.
-#[tactic(auto, using(crate::proofs::Lengths::move_of_fewer, crate::proofs::Lengths::move_of_more))]
-fn read_move(alloc: Global, items: &[Value]) -> Result<Move, PartEnd>
-    ensures { Reads result (spec.move_from (items_view items.now)) }
+/// The move of a word and what stands behind it.
+#[tactic(auto, using(crate::proofs::Lengths::move_of_more))]
+fn read_move(alloc: Global, word: &str, args: &[Value]) -> Result<Move, PartEnd>
+    ensures { Reads result (spec.move_from (items_view args.now) word.now) }
 {
-    match items {
-        [word] => move_alone(word.as_str().ok_or(PartEnd::Malformed)?),
-        [word, a] => move_by_one(alloc, word.as_str().ok_or(PartEnd::Malformed)?, a),
-        [word, a, b] => move_by_two(alloc, word.as_str().ok_or(PartEnd::Malformed)?, a, b),
-        [word, a, b, c] => move_by_three(alloc, word.as_str().ok_or(PartEnd::Malformed)?, a, b, c),
+    match args {
+        [] => move_alone(word).ok_or(PartEnd::Malformed),
+        [a] => move_by_one(word, u32::from_json(alloc, a)?).ok_or(PartEnd::Malformed),
+        [a, b] => read_with_two(alloc, word, a, b),
+        [a, b, c] => read_with_three(alloc, word, a, b, c),
         _ => Err(PartEnd::Malformed),
     }
 }
 
-fn move_alone(word: &str) -> Result<Move, PartEnd>
-    ensures { Reads result (spec.move_alone word.now) }
-{
-    match word {
-        "finish" => Ok(Move::Finish),
-        _ => Err(PartEnd::Malformed),
-    }
-}
-
-fn move_by_one(alloc: Global, word: &str, a: &Value) -> Result<Move, PartEnd>
-    ensures { Reads result (spec.move_by_one (view a.now) word.now) }
+fn move_alone(word: &str) -> Option<Move>
+    ensures { result ≡ spec.move_alone word.now }
 {
     match word {
-        "compute" => Ok(Move::Compute {
-            attempt: u32::from_json(alloc, a)?,
-        }),
-        "commit" => Ok(Move::Report {
-            attempt: u32::from_json(alloc, a)?,
-        }),
-        "end" => Ok(Move::End {
-            attempt: u32::from_json(alloc, a)?,
-        }),
-        "giveback" => Ok(Move::GiveBack {
-            attempt: u32::from_json(alloc, a)?,
-        }),
-        "evict" => Ok(Move::Evict {
-            slot: u32::from_json(alloc, a)?,
-        }),
-        "decide" => Ok(Move::Decide {
-            vertex: u32::from_json(alloc, a)?,
-        }),
-        _ => Err(PartEnd::Malformed),
+        "finish" => Some(Move::Finish),
+        _ => None,
     }
 }
 
-fn move_by_two(alloc: Global, word: &str, a: &Value, b: &Value) -> Result<Move, PartEnd>
-    ensures { Reads result (spec.move_by_two (view a.now) (view b.now) word.now) }
+fn move_by_one(word: &str, n: u32) -> Option<Move>
+    ensures { result ≡ spec.move_by_one word.now n }
 {
     match word {
-        "push" => Ok(Move::Push {
-            attempt: u32::from_json(alloc, a)?,
-            vertex: u32::from_json(alloc, b)?,
-        }),
-        "drop" => Ok(Move::Drop {
-            block: read_block(alloc, a, b)?,
-        }),
-        "spent" => Ok(Move::Spent {
-            task: read_task(alloc, a, b)?,
-        }),
-        "repartition" => Ok(Move::Repartition {
-            vertex: u32::from_json(alloc, a)?,
-            cuts: read_cuts(alloc, b)?,
-        }),
-        _ => Err(PartEnd::Malformed),
+        "compute" => Some(Move::Compute { attempt: n }),
+        "commit" => Some(Move::Report { attempt: n }),
+        "end" => Some(Move::End { attempt: n }),
+        "giveback" => Some(Move::GiveBack { attempt: n }),
+        "evict" => Some(Move::Evict { slot: n }),
+        "decide" => Some(Move::Decide { vertex: n }),
+        _ => None,
     }
 }
 
-fn move_by_three(
+fn read_with_two(alloc: Global, word: &str, a: &Value, b: &Value) -> Result<Move, PartEnd>
+    ensures { Reads result (spec.move_with_two word.now (view a.now) (view b.now)) }
+{
+    if word == "repartition" {
+        return read_repartition(alloc, a, b);
+    }
+    let (n, m) = read_numbers(alloc, a, b)?;
+    move_by_two(word, n, m).ok_or(PartEnd::Malformed)
+}
+
+fn read_repartition(alloc: Global, vertex: &Value, cuts: &Value) -> Result<Move, PartEnd>
+    ensures { Reads result (spec.move_by_cuts (view vertex.now) (view cuts.now)) }
+{
+    Ok(Move::Repartition {
+        vertex: u32::from_json(alloc, vertex)?,
+        cuts: read_cuts(alloc, cuts)?,
+    })
+}
+
+fn read_numbers(alloc: Global, a: &Value, b: &Value) -> Result<(u32, u32), PartEnd>
+    ensures { Reads result (spec.numbers_of (view a.now) (view b.now)) }
+{
+    Ok((u32::from_json(alloc, a)?, u32::from_json(alloc, b)?))
+}
+
+fn move_by_two(word: &str, n: u32, m: u32) -> Option<Move>
+    ensures { result ≡ spec.move_by_two word.now n m }
+{
+    match word {
+        "push" => Some(Move::Push {
+            attempt: n,
+            vertex: m,
+        }),
+        "drop" => Some(Move::Drop {
+            block: BlockId { vertex: n, task: m },
+        }),
+        "spent" => Some(Move::Spent {
+            task: TaskId { stage: n, index: m },
+        }),
+        _ => None,
+    }
+}
+
+fn read_with_three(
     alloc: Global,
     word: &str,
     a: &Value,
     b: &Value,
     c: &Value,
 ) -> Result<Move, PartEnd>
-    ensures { Reads result (spec.move_by_three (view a.now) (view b.now) (view c.now) word.now) }
+    ensures { Reads result (spec.move_with_three word.now (view a.now) (view b.now) (view c.now)) }
+{
+    let (n, m) = read_numbers(alloc, a, b)?;
+    let k = u32::from_json(alloc, c)?;
+    move_by_three(word, n, m, k).ok_or(PartEnd::Malformed)
+}
+
+fn move_by_three(word: &str, n: u32, m: u32, k: u32) -> Option<Move>
+    ensures { result ≡ spec.move_by_three word.now n m k }
 {
     match word {
-        "launch" => Ok(Move::Launch {
-            task: read_task(alloc, a, b)?,
-            slot: u32::from_json(alloc, c)?,
+        "launch" => Some(Move::Launch {
+            task: TaskId { stage: n, index: m },
+            slot: k,
         }),
-        _ => Err(PartEnd::Malformed),
+        _ => None,
     }
-}
-
-fn read_task(alloc: Global, stage: &Value, index: &Value) -> Result<TaskId, PartEnd>
-    ensures { Reads result (option_and_then (λ s. option_map (spec.task_at s) (number_of (view index.now))) (number_of (view stage.now))) }
-{
-    Ok(TaskId {
-        stage: u32::from_json(alloc, stage)?,
-        index: u32::from_json(alloc, index)?,
-    })
-}
-
-fn read_block(alloc: Global, vertex: &Value, task: &Value) -> Result<BlockId, PartEnd>
-    ensures { Reads result (option_and_then (λ v. option_map (spec.block_at v) (number_of (view task.now))) (number_of (view vertex.now))) }
-{
-    Ok(BlockId {
-        vertex: u32::from_json(alloc, vertex)?,
-        task: u32::from_json(alloc, task)?,
-    })
 }

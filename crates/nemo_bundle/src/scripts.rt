@@ -1,15 +1,15 @@
 ghost use Rattle.std.specs.Prelude.{◌≡◌, None, codes, if◌then◌else◌};
 ghost use Rattle.serde_json.specs.Find.{as_str, get};
 ghost use Rattle.serde_json.specs.View.{view, items_view};
-ghost use Rattle.nemo_bundle.specs.Answers.{Reads, Walks};
-ghost use Rattle.nemo_bundle.specs.Parts as parts;
+ghost use Rattle.nemo_read.specs.Answers.{Reads};
+ghost use Rattle.nemo_read.specs.Parts as parts;
+ghost use Rattle.nemo_bundle.specs.Answers.{Walks};
 ghost use Rattle.nemo_bundle.specs.Scripts as spec;
 
 use crate::choices::Cluster;
-use crate::end::{PartEnd, WalkEnd};
-use crate::parts::{is_word, read_ranged};
-use crate::read::FromJson;
+use crate::end::{WalkEnd, placed};
 use nemo_base::{Action, Cuts, ScriptLine};
+use nemo_read::{FromJson, PartEnd, is_word, read_ranged};
 use nemo_value::List;
 use serde_json::Value;
 use std::alloc::Global;
@@ -43,8 +43,11 @@ fn read_lines(alloc: Global, cluster: Cluster, items: &[Value]) -> Result<List<S
     let mut lines = List::with_capacity(alloc, items.len())?;
     let mut before = 0;
     for (place, value) in items.iter().enumerate() {
-        let line = read_line(alloc, cluster, place, before, value);
-        let ScriptLine { at, action } = line.map_err(|e| e.at(place as u64))?;
+        let line = placed(
+            place as u64,
+            read_line(alloc, cluster, place, before, value),
+        );
+        let ScriptLine { at, action } = line?;
         lines.push(ScriptLine { at, action })?;
         before = at;
     }
@@ -146,15 +149,4 @@ pub(crate) fn read_cuts(alloc: Global, value: &Value) -> Result<Cuts, PartEnd>
 {
     let cuts: List<u16> = List::from_json(alloc, value)?;
     Cuts::new(cuts.as_slice()).map_err(|_| PartEnd::Malformed)
-}
-
-/// A whole number of 16 bits without a sign.
-impl FromJson for u16 {
-    ghost use Rattle.nemo_bundle.specs.Scripts.{short_of};
-
-    ghost reads = { short_of };
-
-    fn from_json(alloc: Global, value: &Value) -> Result<u16, PartEnd> {
-        u16::try_from(u32::from_json(alloc, value)?).map_err(|_| PartEnd::Malformed)
-    }
 }

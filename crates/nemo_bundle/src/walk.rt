@@ -1,22 +1,26 @@
+ghost use Rattle.std.specs.Prelude.{◌≡◌};
 ghost use Rattle.serde_json.specs.View.{view, items_view};
-ghost use Rattle.nemo_bundle.specs.Answers.{Walks, on_ok};
-ghost use Rattle.nemo_bundle.specs.Heads.{form_view, loop_view};
+ghost use Rattle.nemo_bundle.specs.Answers.{Walks};
+ghost use Rattle.nemo_bundle.specs.Ends.{around_read};
 ghost use Rattle.nemo_bundle.specs.Vertices as spec;
+ghost use Rattle.nemo_read.specs.Heads.{form_view, head_view};
+ghost use Rattle.nemo_read.specs.Vertices.{body_of, head_of};
 
-use crate::end::{PartEnd, WalkEnd};
-use crate::head::{Form, Head, LoopForm, read_head};
-use nemo_job::{JobVertex, Ref, Work};
-use nemo_value::{Items, List, Name};
+use crate::end::{WalkEnd, placed};
+use nemo_job::JobVertex;
+use nemo_read::{Form, Head, read_head};
+use nemo_value::List;
 use serde_json::Value;
 use std::alloc::Global;
 
 // The walk over vertices, which are counted in list order, a loop before its body. `count` is the number of the next
-// vertex. A number that a `u64` can't hold is taken as more vertices than memory holds.
+// vertex. A number that a `u64` can't hold is taken as more vertices than memory holds, and so are loops that are deeper
+// in one another than the walk goes down.
 
-/// One more than the most loops that are one in the other. JSON text has no room for more.
+/// The most loops that are one in the other. JSON text has no room for more than 63.
 pub(crate) const MAX_DEPTH: u32 = 64;
 
-/// The vertices of a list, each with at most `depth` - 1 loops one in the other.
+/// The vertices of a list, with at most `depth` loops one in the other.
 #[cycle(walk)]
 pub(crate) fn read_vertices(
     alloc: Global,
@@ -24,7 +28,7 @@ pub(crate) fn read_vertices(
     count: &mut u64,
     depth: u32,
 ) -> Result<List<JobVertex>, WalkEnd>
-    ensures { Walks (λ vs. record { made = vs; next = count.new }) result (spec.walk (spec.vertex_within depth) count.old (items_view items.now)) }
+    ensures { Walks (λ vs. record { made = vs; next = count.new }) result (spec.walk spec.vertex_at count.old (items_view items.now)) }
 {
     let mut list = List::with_capacity(alloc, items.len())?;
     for value in items {
@@ -41,66 +45,49 @@ fn read_vertex(
     count: &mut u64,
     depth: u32,
 ) -> Result<JobVertex, WalkEnd>
-    ensures { Walks (λ v. record { made = v; next = count.new }) result (spec.vertex_within depth count.old (view value.now)) }
+    ensures { Walks (λ v. record { made = v; next = count.new }) result (spec.vertex_at count.old (view value.now)) }
 {
-    if depth == 0 {
-        return Err(PartEnd::Malformed.at(*count));
-    }
-    match read_head(alloc, value) {
-        Ok(head) => read_rest(alloc, head, count, depth - 1),
-        Err(end) => Err(end.at(*count)),
+    let head = next_head(alloc, value, count)?;
+    let body = read_body(alloc, &head.form, count, depth);
+    with_body(head, body)
+}
+
+/// The vertex of a head with its body, where that was read.
+fn with_body(head: Head<'_>, body: Result<List<JobVertex>, WalkEnd>) -> Result<JobVertex, WalkEnd>
+    ensures { result ≡ around_read (head_view head.entry) body }
+{
+    match body {
+        Ok(body) => Ok(head.around(body)),
+        Err(end) => Err(end),
     }
 }
 
-/// The vertex of a head, with its body.
+/// The vertices of the body, of which an operation has none.
 #[cycle(walk)]
-fn read_rest(
+fn read_body(
     alloc: Global,
-    head: Head<'_>,
+    form: &Form<'_>,
     count: &mut u64,
     depth: u32,
-) -> Result<JobVertex, WalkEnd>
-    ensures { Walks (λ v. record { made = v; next = count.new }) result (spec.vertex_by (spec.vertex_within depth) count.old head.entry.name head.entry.inputs (form_view head.entry.form)) }
+) -> Result<List<JobVertex>, WalkEnd>
+    ensures { Walks (λ vs. record { made = vs; next = count.new }) result (spec.walk spec.vertex_at count.old (body_of (form_view form.now))) }
 {
-    *count = count.checked_add(1).ok_or(WalkEnd::NoMemory)?;
-    let Head { name, inputs, form } = head;
     match form {
-        Form::Does(transform) => Ok(JobVertex {
-            name,
-            work: Work::Op(transform),
-            inputs,
-        }),
-        Form::Loops(members) => read_loop(alloc, name, inputs, members, count, depth),
+        Form::Does(_) => Ok(List::new(alloc)),
+        Form::Loops(members) => {
+            if depth == 0 {
+                return Err(WalkEnd::NoMemory);
+            }
+            read_vertices(alloc, members.body, count, depth - 1)
+        }
     }
 }
 
-/// The loop of these members, with its body.
-#[cycle(walk)]
-fn read_loop(
-    alloc: Global,
-    name: Name,
-    inputs: List<Ref>,
-    members: LoopForm<'_>,
-    count: &mut u64,
-    depth: u32,
-) -> Result<JobVertex, WalkEnd>
-    ensures { Walks (λ v. record { made = v; next = count.new }) result (on_ok (spec.walk (spec.vertex_within depth) count.old (items_view members.entry.body.now)) (spec.loop_around name inputs (loop_view members.entry))) }
+/// The head of the next vertex.
+fn next_head<'a>(alloc: Global, value: &'a Value, count: &mut u64) -> Result<Head<'a>, WalkEnd>
+    ensures { Walks (λ h. record { made = head_view h; next = count.new }) result (spec.numbered count.old (head_of (view value.now))) }
 {
-    let LoopForm {
-        turns,
-        carry,
-        body,
-        next,
-    } = members;
-    let body = read_vertices(alloc, body, count, depth)?;
-    Ok(JobVertex {
-        name,
-        work: Work::Loop {
-            turns,
-            carry,
-            body: Items::from_vec(body.into_vec()),
-            next,
-        },
-        inputs,
-    })
+    let head = placed(*count, read_head(alloc, value))?;
+    *count = count.checked_add(1).ok_or(WalkEnd::NoMemory)?;
+    Ok(head)
 }

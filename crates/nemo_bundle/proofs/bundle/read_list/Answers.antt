@@ -1,8 +1,8 @@
-use Rattle.nemo_bundle.proofs.FittingSites.{vertices_fit, vertices_filled}
+use Rattle.nemo_bundle.proofs.FittingSites.{listed_fit, listed_filled}
 use Rattle.nemo_bundle.proofs.bundle.read_list.Goals as goal
 
-pub returns-in-Ok-clause-fitting : goal.returns-in-Ok-clause-fitting
-returns-in-Ok-clause-fitting c = vertices_fit 64 0 _ _ c.in-Ok.ensures
+pub returns-clause-fitting : goal.returns-clause-fitting
+returns-clause-fitting c = rw c.coded.ensures (listed_fit c.read_vertices-vertices.result _ 0 _ c.read_vertices-vertices.ensures)
 
-pub returns-in-Ok-clause-filled : goal.returns-in-Ok-clause-filled
-returns-in-Ok-clause-filled c = vertices_filled 64 0 _ _ c.in-Ok.ensures
+pub returns-clause-filled : goal.returns-clause-filled
+returns-clause-filled c = rw c.coded.ensures (listed_filled c.read_vertices-vertices.result _ 0 _ c.read_vertices-vertices.ensures)

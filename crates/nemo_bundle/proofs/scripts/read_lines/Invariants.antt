@@ -7,4 +7,4 @@ use Rattle.nemo_bundle.proofs.scripts.read_lines.Given as goal
 -- the lines so far, and then what the rest stands for
 abbrev pub invariant-loop-place : goal.invariant-loop-place
 invariant-loop-place l =
-    put_front l.lines (lines_from l.cluster l.place-counter l.before (items_view (drop l.place-counter l.items))) ≡ lines_from l.cluster 0 0 (items_view l.items)
+    put_front l.lines (lines_from l.cluster l.place l.before (items_view (drop l.place l.items))) ≡ lines_from l.cluster 0 0 (items_view l.items)
