@@ -9,13 +9,13 @@ use Rattle.nemo_base.specs.declared.graph.Home.TheVariants.{Master, Local}
 use Rattle.nemo_ir.specs.Along.{below, passes}
 use Rattle.nemo_ir.specs.Flat.{FlatForm, IsFlat, is_sink, transform_of}
 use Rattle.nemo_ir.specs.Line.{IsLine}
-use Rattle.nemo_ir.specs.Nodes.{edge_at}
+use Rattle.nemo_ir.specs.Nodes.{edge_at, transform_in}
 use Rattle.nemo_ir.specs.Uniform.{first_tasks, is_uniform}
 use Rattle.nemo_ir.specs.Valid.{Valid, is_hash, is_one_to_one, is_trigger, kinds_at}
 use Rattle.nemo_ir.specs.declared.dag.IrDag.{IrDag}
 use Rattle.nemo_ir.specs.declared.dag.IrEdge.{IrEdge}
 use Rattle.nemo_ir.specs.declared.dag.IrVertex.{IrVertex}
-use Rattle.nemo_plan.specs.Graph.{class_of, first_vertex, graph_of, has_blocks, home_of, is_any, is_sink_vertex, keeps_none, leaves, leaving, of_stage, rank_in, rank_of, read_along, reads_into, reads_of, stage_row, tasks_of, transform_in, trigger_along, vertex_row, vertices_of, greatest}
+use Rattle.nemo_plan.specs.Graph.{class_of, first_vertex, graph_of, has_blocks, home_of, is_any, is_sink_vertex, keeps_none, leaves, leaving, of_stage, rank_in, rank_of, read_along, reads_into, reads_of, stage_row, tasks_of, trigger_along, vertex_row, vertices_of, greatest}
 use Rattle.nemo_plan.specs.Line.{line_graph, line_stage, line_vertex}
 use Rattle.nemo_plan.specs.Stages.{count_stages, in_edges, stage_at, stages_of}
 use Rattle.nemo_ir.proofs.Places.{from_none, same_item}

@@ -5,7 +5,9 @@ use Rattle.std.proofs.lemmas.Option.{get_or_from_slice_get, slice_get_past, slic
 use Rattle.std.specs.Cmp.{first_so}
 use Rattle.std.specs.List.{fold, list_all, list_any}
 use Rattle.nemo_base.specs.declared.annotation.Pattern.TheVariants.{OneToOne}
-use Rattle.nemo_transform.specs.Ports.{PortKind, Main, Keyed, Side, kinds_of}
+use Rattle.nemo_transform.specs.Ports.{kinds_of}
+use Rattle.nemo_transform.specs.declared.shape.PortKind.{PortKind}
+use Rattle.nemo_transform.specs.declared.shape.PortKind.TheVariants.{Main, Keyed, Side}
 use Rattle.nemo_transform.specs.declared.transform.Transform.{Transform}
 use Rattle.nemo_ir.specs.Along.{passes}
 use Rattle.nemo_ir.specs.Flat.{FlatForm, IsFlat, transform_of}

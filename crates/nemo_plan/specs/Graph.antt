@@ -13,7 +13,7 @@ use Rattle.nemo_base.specs.Places.{map_at}
 use Rattle.nemo_transform.specs.declared.transform.Transform.{Transform}
 use Rattle.nemo_ir.specs.Along.{below, passes}
 use Rattle.nemo_ir.specs.Flat.{FlatForm, is_sink}
-use Rattle.nemo_ir.specs.Nodes.{Deed, Passes, Nothing, Does, deed_of, edge_at}
+use Rattle.nemo_ir.specs.Nodes.{deed_of, edge_at, transform_in}
 use Rattle.nemo_ir.specs.Valid.{is_hash, is_one_to_one, is_trigger, kinds_at}
 use Rattle.nemo_ir.specs.declared.dag.IrDag.{IrDag}
 use Rattle.nemo_ir.specs.declared.dag.IrEdge.{IrEdge}
@@ -28,11 +28,6 @@ leaves stages e = passes (λ a. passes (λ b. not (a == b)) (stage_at stages e.t
 -- the out-edges of a vertex that leave its stage
 abbrev pub leaving : IrDag → List ℕ → ℕ → List IrEdge
 leaving dag stages v = filter (λ e. (e.from == v) && leaves stages e) dag.edges
-
-abbrev pub transform_in : Deed → Option Transform
-transform_in (Does t) = Some t
-transform_in Passes = None
-transform_in Nothing = None
 
 -- the transform that a vertex does, if it is an Op of one
 abbrev pub vertex_transform : FlatForm → IrVertex → Option Transform
