@@ -1,5 +1,6 @@
 pub mod Depths
 pub mod Fitting
+pub mod FoldingWords
 pub mod Fronts
 pub mod Lengths
 pub mod Passing

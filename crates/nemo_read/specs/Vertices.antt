@@ -1,9 +1,11 @@
 -- What vertices say of themselves, before the bodies of loops are read.
-use Rattle.std.specs.Prelude.{ℕ, ℤ, if◌then◌else◌, List, [], length, Option, Some, None, option_map, option_and_then, unwrap_or, codes}
+use Rattle.std.specs.Prelude.{ℕ, ℤ, if◌then◌else◌, List, [], ◌∷◌, length, Option, Some, None, option_map, option_and_then, unwrap_or, codes}
+use Rattle.std.specs.List.{find}
 use Rattle.std.specs.Option.{option_or}
 use Rattle.serde_json.specs.Data.{Data, Items, no_items, item}
 use Rattle.serde_json.specs.Find.{get, as_str, as_array}
 use Rattle.nemo_value.specs.Texts.{same_text}
+use Rattle.nemo_transform.specs.Words.{folding_word}
 use Rattle.nemo_transform.specs.declared.transform.Folding.{Folding}
 use Rattle.nemo_transform.specs.declared.transform.Folding.TheVariants.{Sum, Min, Max, Count}
 use Rattle.nemo_transform.specs.declared.transform.Output.{Output}
@@ -60,13 +62,9 @@ output_of d = output_with (member_of (codes "if") expr_of d) (few_of (codes "out
 abbrev pub own_place : Data → Option ℕ
 own_place d = member_of (codes "field") place_of d
 
+-- the way to fold whose word it is
 abbrev pub folding_of : List ℕ → Option Folding
-folding_of word =
-    if same_text word (codes "sum") then Some Sum
-    else (if same_text word (codes "min") then Some Min
-    else (if same_text word (codes "max") then Some Max
-    else (if same_text word (codes "count") then Some Count
-    else None)))
+folding_of word = find (λ by. same_text word (folding_word by)) (Sum ∷ Min ∷ Max ∷ Count ∷ [])
 
 -- a count takes no field
 abbrev pub reduce_by : Data → Folding → Option Transform

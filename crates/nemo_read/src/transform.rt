@@ -71,31 +71,20 @@ pub(crate) fn union_of(ports: usize) -> Result<Transform, PartEnd>
 }
 
 /// A reduce by the folding of `fn`, at the field of `field` unless it counts.
+#[tactic(auto, using(crate::proofs::FoldingWords::folding_found))]
 pub(crate) fn read_reduce(alloc: Global, value: &Value) -> Result<Transform, PartEnd>
     ensures { Reads result (spec.reduce_of (view value.now)) }
 {
     let by = value
         .get("fn")
         .and_then(Value::as_str)
-        .and_then(folding_of)
+        .and_then(Folding::from_word)
         .ok_or(PartEnd::Malformed)?;
     let field = match by {
         Folding::Count => 0,
         Folding::Sum | Folding::Min | Folding::Max => read_field(alloc, value)?,
     };
     Ok(Transform::Reduce { by, field })
-}
-
-fn folding_of(word: &str) -> Option<Folding>
-    ensures { result ≡ spec.folding_of word.now }
-{
-    match word {
-        "sum" => Some(Folding::Sum),
-        "min" => Some(Folding::Min),
-        "max" => Some(Folding::Max),
-        "count" => Some(Folding::Count),
-        _ => None,
-    }
 }
 
 /// The 1 to 16 things of a member.
