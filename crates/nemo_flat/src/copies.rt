@@ -15,14 +15,12 @@ ghost use Rattle.nemo_job.specs.Sinks.{job_faults, job_rows, sinks_reached};
 use crate::counting::count_copies;
 use crate::keeping::kept_vertices;
 use crate::table::table;
+use nemo_base::limits::MAX_COPIES;
 use nemo_ir::{FlatJob, FlatVertex};
 use nemo_job::{Job, JobVertex, unroll};
 use nemo_value::{List, NoMemory};
 use std::alloc::Global;
 use thiserror::Error;
-
-/// The most copies of a job's vertices.
-const MAX_COPIES: u64 = 512;
 
 /// Why a job has no flat job: it has more than 512 copies, or memory ran out.
 #[derive(Debug, Drop, Error)]
@@ -45,9 +43,9 @@ impl From<NoMemory> for FlattenRefused {
 }
 
 /// The flat job of a job: the copies of its vertices that reach a sink, a loop's turn by turn in the loop's place, named
-/// by their paths and with the transforms of the job's operations. Its sinks get what the job gives them, row by row, and
-/// the same faults reach them. Its names differ and hold neither a space nor a newline. More than 512 copies, also of vertices that reach no sink, are refused with their number. The
-/// flat job of a chain is a line.
+/// by their paths and with the transforms of the job's operations. Its sinks get what the job gives them, row by row,
+/// and the same faults reach them. Its names differ and hold neither a space nor a newline. More than 512 copies, also
+/// of vertices that reach no sink, are refused with their number. The flat job of a chain is a line.
 pub fn flatten(alloc: Global, job: &Job) -> Result<FlatJob, FlattenRefused>
     ensures flat { IfOk result (λ flat. flat ≡ flattened job.now) }
     ensures few { IfOk result (λ flat. copies job.now ≤ 512) }
@@ -86,7 +84,7 @@ pub fn check_copies(job: &Job) -> Result<(), FlattenRefused>
     ensures end { IfErr result (λ e. (513 ≤ copies job.now) × (e ≡ FlattenRefused.TooMany (min (copies job.now) (2 ^ 64 - 1)))) }
 {
     let count = count_copies(job.vertices().as_slice());
-    if count > MAX_COPIES {
+    if count > MAX_COPIES as u64 {
         return Err(FlattenRefused::TooMany { count });
     }
     Ok(())
