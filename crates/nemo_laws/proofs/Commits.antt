@@ -4,7 +4,7 @@ use Rattle.std.specs.List.{list_any}
 use Rattle.std.proofs.lemmas.Bool.{lt-ltb, cases_lt, cases_Bool, eqb-true, eqb-false}
 use Rattle.nemo_base.specs.Places.{passes}
 use Rattle.nemo_base.specs.declared.graph.Home.TheVariants.{Master}
-use Rattle.nemo_base.specs.declared.settings.Settings.{Settings}
+use Rattle.nemo_base.specs.Settings.{SettingsForm}
 use Rattle.nemo_base.specs.declared.why.Why.TheVariants.{Missing}
 use Rattle.nemo_ir.specs.Along.{below}
 use Rattle.nemo_ir.proofs.Places.{list_any-at, or_true}
@@ -32,7 +32,7 @@ own_busy i slot = ap (λ b. if b then busy_task i slot else fresh_task) (eq-eqb 
 any_runs : (n i slot : ℕ) → i < n → list_any (runs i) (map (task_while i slot) (below n)) ≡ true
 any_runs n i slot lt = list_any-at (runs i) (map (task_while i slot) (below n)) i (task_while i slot i) (map_get (task_while i slot) n i lt) (ap (runs i) (own_busy i slot) ∙ runs_own i slot)
 
-pub commit_allowed : (m n : ℕ) (k : Settings) (i slot : ℕ) → i < n → refusal (line_graph m n) k (busy m n k i slot) (Commit i) ≡ None
+pub commit_allowed : (m n : ℕ) (k : SettingsForm) (i slot : ℕ) → i < n → refusal (line_graph m n) k (busy m n k i slot) (Commit i) ≡ None
 commit_allowed m n k i slot lt =
     all_met (conditions (line_graph m n) k (busy m n k i slot) (Commit i))
     (refl, (lt-ltb i (suc i) (omega arith), (ap (λ b. b || false) (any_runs n i slot lt), tt)))
@@ -52,7 +52,7 @@ stage_sealed : (n i slot : ℕ) → i < n → (nat_lt 0 i || list_any (runs i) (
 stage_sealed n i slot lt = ap (λ b. nat_lt 0 i || b) (any_runs n i slot lt) ∙ or_true (nat_lt 0 i) ∙ sym (lt-ltb 0 (suc i) (omega arith))
 
 -- block j after the commit of task i
-block_filled : (n : ℕ) (k : Settings) (incs : List ℕ) (i slot j : ℕ) → j < n → filled k incs i Master (map (task_while i slot) (below n)) j (block_after i j) ≡ block_after (suc i) j
+block_filled : (n : ℕ) (k : SettingsForm) (incs : List ℕ) (i slot j : ℕ) → j < n → filled k incs i Master (map (task_while i slot) (below n)) j (block_after i j) ≡ block_after (suc i) j
 block_filled n k incs i slot j lt = ⊎_elim
     (λ before. ap (filled k incs i Master (map (task_while i slot) (below n)) j) (held_before i j before) ∙ sym (held_before (suc i) j (omega arith)))
     (λ from. ap (filled k incs i Master (map (task_while i slot) (below n)) j) (gone_from i j from) ∙ ap (λ o. made k incs i j Master (running_of o)) (map_get (task_while i slot) n j lt) ∙ ⊎_elim (own j) (other j from) (cases_Bool (j == i)))
@@ -72,19 +72,19 @@ block_filled n k incs i slot j lt = ⊎_elim
         ap (λ b. made k incs i j Master (running_of (Some (if b then busy_task i slot else fresh_task)))) e
         ∙ sym (gone_from (suc i) j (omega (arith, ne)))
 
-row_filled_if : (b : Bool) (n : ℕ) (k : Settings) (incs : List ℕ) (i slot : ℕ) → filled_row k incs (map (task_while i slot) (below n) ∷ []) i (Some (vertex_of b n)) (blocks_if b n i) ≡ blocks_if b n (suc i)
+row_filled_if : (b : Bool) (n : ℕ) (k : SettingsForm) (incs : List ℕ) (i slot : ℕ) → filled_row k incs (map (task_while i slot) (below n) ∷ []) i (Some (vertex_of b n)) (blocks_if b n i) ≡ blocks_if b n (suc i)
 row_filled_if true n k incs i slot =
     map_at_below (filled k incs i Master (map (task_while i slot) (below n))) (block_after i) n
     ∙ map_same (λ j. filled k incs i Master (map (task_while i slot) (below n)) j (block_after i j)) (block_after (suc i)) n (λ j lt. block_filled n k incs i slot j lt)
 row_filled_if false n k incs i slot = refl
 
-row_filled : (m n v : ℕ) (k : Settings) (incs : List ℕ) (i slot : ℕ) → v < m
+row_filled : (m n v : ℕ) (k : SettingsForm) (incs : List ℕ) (i slot : ℕ) → v < m
     → filled_row k incs (map (task_while i slot) (below n) ∷ []) i (slice_get (line_graph m n).vertices v) (blocks_after m n i v) ≡ blocks_after m n (suc i) v
 row_filled m n v k incs i slot lt =
     ap (λ o. filled_row k incs (map (task_while i slot) (below n) ∷ []) i o (blocks_after m n i v)) (vertex_at m n v lt)
     ∙ row_filled_if (suc v == m) n k incs i slot
 
-pub commit_after : (m n : ℕ) (k : Settings) (i slot : ℕ) → i < n → after (line_graph m n) k (busy m n k i slot) (Commit i) ≡ ready m n k (suc i)
+pub commit_after : (m n : ℕ) (k : SettingsForm) (i slot : ℕ) → i < n → after (line_graph m n) k (busy m n k i slot) (Commit i) ≡ ready m n k (suc i)
 commit_after m n k i slot lt =
     let s = busy m n k i slot in
     let t = after (line_graph m n) k s (Commit i) in
@@ -104,12 +104,12 @@ lacks_none_if : (b : Bool) (n : ℕ) → (is_master (vertex_of b n).home && not 
 lacks_none_if true n = ap not (all_each is_some (block_after n) n (λ j lt. ap is_some (held_before n j lt)))
 lacks_none_if false n = refl
 
-pub finish_allowed : (m n : ℕ) (k : Settings) → refusal (line_graph m n) k (ready m n k n) Finish ≡ None
+pub finish_allowed : (m n : ℕ) (k : SettingsForm) → refusal (line_graph m n) k (ready m n k n) Finish ≡ None
 finish_allowed m n k =
     let none = any_at_none (lacks_sink (line_graph m n)) (blocks_after m n n) m (λ v lt. ap (λ o. passes (λ row. is_master row.home) o && not (all_held (blocks_after m n n v))) (vertex_at m n v lt) ∙ lacks_none_if (suc v == m) n) in
     all_met (conditions (line_graph m n) k (ready m n k n) Finish) (refl, (ap not none, tt))
 
-pub finish_early : (m n : ℕ) (k : Settings) (i : ℕ) → 1 ≤ m → i < n → refusal (line_graph m n) k (ready m n k i) Finish ≡ Some Missing
+pub finish_early : (m n : ℕ) (k : SettingsForm) (i : ℕ) → 1 ≤ m → i < n → refusal (line_graph m n) k (ready m n k i) Finish ≡ Some Missing
 finish_early m n k i some lt =
     let within : m - 1 < m = omega arith in
     let last : suc (m - 1) ≡ m = omega arith in

@@ -1,5 +1,5 @@
 -- What all tasks of a plan of one stage give together is what its flat job gives.
-use Rattle.std.proofs.Common.{arith, ◌≡◌, ◌∙◌, ap, sym, subst, refl, ℕ, zero, suc, ◌+◌, ◌-◌, ◌<◌, ◌≤◌, List, [], ◌∷◌, ◌++◌, length, map, get_or, inl, inr}
+use Rattle.std.proofs.Common.{arith, ◌≡◌, ◌∙◌, ap, sym, subst, refl, ℕ, zero, suc, ◌+◌, ◌<◌, ◌≤◌, List, [], ◌∷◌, ◌++◌, length, map, get_or, inl, inr}
 use Rattle.std.proofs.lemmas.Bool.{cases_eq}
 use Rattle.std.specs.List.{flat_map}
 use Rattle.std.specs.List.Sorted.{IsPermutation}
@@ -9,7 +9,7 @@ use Rattle.nemo_value.specs.Members.{SameMembers}
 use Rattle.nemo_transform.specs.Brought.{all_faults, all_rows}
 use Rattle.nemo_transform.specs.Tasks.{renamed}
 use Rattle.nemo_ir.specs.Along.{below, counted}
-use Rattle.nemo_ir.specs.Part.{all_parts, all_tasks, no_parts, part}
+use Rattle.nemo_ir.specs.Part.{all_parts, no_parts, part}
 use Rattle.nemo_ir.specs.Nodes.{rep_of}
 use Rattle.nemo_ir.specs.Rewrites.{IsComputed, called, tasks_at}
 use Rattle.nemo_ir.specs.Value.{ByNumber, value}

@@ -1,6 +1,6 @@
 -- Lists that are made from the numbers below n.
 use Rattle.std.proofs.Common.{arith, ◌≡◌, ◌∙◌, ap, refl, ℕ, zero, suc, ◌+◌, ◌<◌, ◌≤◌, List, [], ◌∷◌, ◌++◌, length, map, replicate, slice_get, get_or, Bool, true, false, ◌&&◌, ◌||◌, Option, Some, None, add-one, cond, ◌-◌, ⊎_elim}
-use Rattle.std.specs.List.{filter, list_all, range_with_len}
+use Rattle.std.specs.List.{filter, list_all}
 use Rattle.std.specs.Cmp.Derive.{both_true}
 use Rattle.std.proofs.lemmas.Bool.{cases_order}
 use Rattle.nemo_base.specs.Places.{map_at}
@@ -23,13 +23,6 @@ next k n P f = λ j low high. f j (omega arith) (omega arith)
 
 from_zero : (n : ℕ) (P : ℕ → Type 0) → ((j : ℕ) → j < n → P j) → Each 0 n P
 from_zero n P f = λ j low high. f j (omega arith)
-
-pub counted_range : (k n : ℕ) → range_with_len k n ≡ counted k n
-counted_range k zero = refl
-counted_range k (suc n) = ap (λ j. k ∷ range_with_len j n) (add-one k) ∙ ap (λ js. k ∷ js) (counted_range (suc k) n)
-
-pub below_range : (n : ℕ) → range_with_len 0 n ≡ below n
-below_range n = counted_range 0 n
 
 pub counted_append : (k a b : ℕ) → counted k (a + b) ≡ counted k a ++ counted (k + a) b
 counted_append k zero b =

@@ -3,7 +3,7 @@ use Rattle.std.proofs.Common.{arith, ◌≡◌, ◌∙◌, ap, refl, ℕ, zero, 
 use Rattle.std.specs.List.{flat_map}
 use Rattle.std.proofs.lemmas.Grind.{flat_map-append}
 use Rattle.nemo_base.specs.declared.graph.TaskGraph.{TaskGraph}
-use Rattle.nemo_base.specs.declared.settings.Settings.{Settings}
+use Rattle.nemo_base.specs.Settings.{SettingsForm}
 use Rattle.nemo_ir.specs.Along.{below}
 use Rattle.nemo_core.specs.Run.{run_on}
 use Rattle.nemo_core.specs.State.{State, start}
@@ -20,22 +20,22 @@ use Rattle.nemo_laws.proofs.Launches.{launch_after}
 use Rattle.nemo_laws.specs.Ready.{busy, ready}
 use Rattle.nemo_laws.proofs.States.{start_ready}
 
-pub run_on_append : (g : TaskGraph) (k : Settings) (s : State) (es fs : List Event) → run_on g k s (es ++ fs) ≡ run_on g k (run_on g k s es) fs
+pub run_on_append : (g : TaskGraph) (k : SettingsForm) (s : State) (es fs : List Event) → run_on g k s (es ++ fs) ≡ run_on g k (run_on g k s es) fs
 run_on_append g k s [] fs = refl
 run_on_append g k s (e ∷ es) fs = run_on_append g k (after g k s e) es fs
 
 -- a task is launched and committed
-pub turn_after : (m n : ℕ) (k : Settings) (i : ℕ) → i < n → run_on (line_graph m n) k (ready m n k i) (turn k i) ≡ ready m n k (suc i)
+pub turn_after : (m n : ℕ) (k : SettingsForm) (i : ℕ) → i < n → run_on (line_graph m n) k (ready m n k i) (turn k i) ≡ ready m n k (suc i)
 turn_after m n k i lt = ap (λ s. after (line_graph m n) k s (Commit i)) (launch_after m n k i (slot_of k i)) ∙ commit_after m n k i (slot_of k i) lt
 
 -- the turns of the first tasks
-abbrev pub turns : Settings → ℕ → List Event
+abbrev pub turns : SettingsForm → ℕ → List Event
 turns k i = flat_map (turn k) (below i)
 
-pub turns_more : (k : Settings) (i : ℕ) → turns k (suc i) ≡ turns k i ++ turn k i
+pub turns_more : (k : SettingsForm) (i : ℕ) → turns k (suc i) ≡ turns k i ++ turn k i
 turns_more k i = ap (flat_map (turn k)) (below_suc i) ∙ flat_map-append (turn k) (below i) (i ∷ [])
 
-pub turns_state : (m n : ℕ) (k : Settings) (i : ℕ) → 1 ≤ m → i ≤ n → state_of (line_graph m n) k (turns k i) ≡ ready m n k i
+pub turns_state : (m n : ℕ) (k : SettingsForm) (i : ℕ) → 1 ≤ m → i ≤ n → state_of (line_graph m n) k (turns k i) ≡ ready m n k i
 turns_state m n k zero some le = start_ready m n k some
 turns_state m n k (suc i) some le =
     ap (state_of (line_graph m n) k) (turns_more k i)
@@ -44,14 +44,14 @@ turns_state m n k (suc i) some le =
     ∙ turn_after m n k i (omega arith)
 
 -- once the next task is launched
-pub launched_state : (m n : ℕ) (k : Settings) (i : ℕ) → 1 ≤ m → i < n → state_of (line_graph m n) k (turns k i ++ Launch i (first_stage i) (slot_of k i) [] ∷ []) ≡ busy m n k i (slot_of k i)
+pub launched_state : (m n : ℕ) (k : SettingsForm) (i : ℕ) → 1 ≤ m → i < n → state_of (line_graph m n) k (turns k i ++ Launch i (first_stage i) (slot_of k i) [] ∷ []) ≡ busy m n k i (slot_of k i)
 launched_state m n k i some lt =
     run_on_append (line_graph m n) k (start (line_graph m n) k) (turns k i) (Launch i (first_stage i) (slot_of k i) [] ∷ [])
     ∙ ap (λ s. after (line_graph m n) k s (Launch i (first_stage i) (slot_of k i) [])) (turns_state m n k i some (omega arith))
     ∙ launch_after m n k i (slot_of k i)
 
 -- the whole log
-pub solo_state : (m n : ℕ) (k : Settings) → 1 ≤ m → state_of (line_graph m n) k (solo_log k n) ≡ over Done (ready m n k n)
+pub solo_state : (m n : ℕ) (k : SettingsForm) → 1 ≤ m → state_of (line_graph m n) k (solo_log k n) ≡ over Done (ready m n k n)
 solo_state m n k some =
     run_on_append (line_graph m n) k (start (line_graph m n) k) (turns k n) (Finish ∷ [])
     ∙ ap (over Done) (turns_state m n k n some (omega arith))

@@ -5,7 +5,7 @@ use Rattle.nemo_base.specs.Places.{passes}
 use Rattle.nemo_base.specs.declared.graph.StageRow.{StageRow}
 use Rattle.nemo_base.specs.declared.graph.TaskGraph.{TaskGraph}
 use Rattle.nemo_base.specs.declared.id.TaskId.{TaskId}
-use Rattle.nemo_base.specs.declared.settings.Settings.{Settings}
+use Rattle.nemo_base.specs.Settings.{SettingsForm}
 use Rattle.nemo_ir.proofs.Places.{from_none, next, none, same_item}
 use Rattle.nemo_base.specs.Places.{item_at, map_rows, row_at}
 use Rattle.nemo_core.specs.Run.{HasState, Reaches, loses, losses, losses_from}
@@ -120,7 +120,7 @@ after_evict g s slot t row h =
       adds = ap (λ r. r.losses) w.is ∙ one_more (test w.item) w.item.losses ∙ ap (λ o. w.item.losses + cond (passes test o) 1 0) (sym w.there);
     }
 
-after_event : (g : TaskGraph) (k : Settings) (s : State) (e : Event) (t : TaskId) (row : TaskRow) → task_at (after g k s e) t ≡ Some row → IsLater s t (loses g s t e) row
+after_event : (g : TaskGraph) (k : SettingsForm) (s : State) (e : Event) (t : TaskId) (row : TaskRow) → task_at (after g k s e) t ≡ Some row → IsLater s t (loses g s t e) row
 after_event g k s (Launch attempt task slot reads) t row h =
     free s t row (launched attempt task slot t.stage t.index) (launched_keeps attempt task slot t.stage t.index) (item_rows (launched attempt task slot) s.tasks t.stage t.index row h)
 after_event g k s (Commit attempt) t row h = after_end s attempt t row h
@@ -138,7 +138,7 @@ after_event g k s Finish t row h = after_all s t row h
 
 ---- a log
 
-after_log : (g : TaskGraph) (k : Settings) (log : List Event) (s end : State) (t : TaskId) (row : TaskRow) → Reaches g k s log end → task_at end t ≡ Some row → IsLater s t (losses_from g k s t log) row
+after_log : (g : TaskGraph) (k : SettingsForm) (log : List Event) (s end : State) (t : TaskId) (row : TaskRow) → Reaches g k s log end → task_at end t ≡ Some row → IsLater s t (losses_from g k s t log) row
 after_log g k [] s end t row reached h = record { before = row; there = ap (λ u. task_at u t) reached ∙ h; adds = none row.losses }
 after_log g k (e ∷ es) s end t row reached h =
     let later = after_log g k es (after g k s e) end t row reached.1 h in
@@ -155,7 +155,7 @@ fresh_row [] a b row e = cc
 fresh_row (stage ∷ stages) zero b row e = replicated stage.parallelism fresh_task b row e
 fresh_row (stage ∷ stages) (suc a) b row e = fresh_row stages a b row e
 
-pub losses_kept : (g : TaskGraph) (k : Settings) (log : List Event) (s : State) (t : TaskId) (row : TaskRow) → HasState g k log s → task_at s t ≡ Some row → row.losses ≡ losses g k log t
+pub losses_kept : (g : TaskGraph) (k : SettingsForm) (log : List Event) (s : State) (t : TaskId) (row : TaskRow) → HasState g k log s → task_at s t ≡ Some row → row.losses ≡ losses g k log t
 losses_kept g k log s t row reached h =
     let later = after_log g k log (start g k) s t row reached h in
     let none_yet : 0 ≡ later.before.losses = ap (λ r. r.losses) (fresh_row g.stages t.stage t.index later.before later.there) in

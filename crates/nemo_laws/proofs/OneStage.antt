@@ -1,13 +1,13 @@
 -- A plan of one stage: what each vertex does, and what its tasks make of the rows before it.
-use Rattle.std.proofs.Common.{arith, ◌≡◌, ◌∙◌, ap, sym, refl, ℕ, zero, suc, ◌+◌, ◌-◌, ◌<◌, ◌≤◌, List, [], ◌∷◌, ◌++◌, append-nil, length, map, take, slice_get, Some}
+use Rattle.std.proofs.Common.{arith, ◌≡◌, ◌∙◌, ap, sym, refl, ℕ, zero, suc, ◌+◌, ◌<◌, List, [], ◌∷◌, ◌++◌, append-nil, length, map, take, slice_get, Some}
 use Rattle.std.proofs.lemmas.List.{take_all}
 use Rattle.nemo_transform.specs.Brought.{Arisen, all_faults, arisen, at, blocking, brought_by, first_rows}
 use Rattle.nemo_transform.specs.Gives.{Row, answers, own_faults, rows_in}
-use Rattle.nemo_transform.specs.Ports.{PortKind, Main, kinds_of}
+use Rattle.nemo_transform.specs.Ports.{kinds_of}
+use Rattle.nemo_transform.specs.declared.shape.PortKind.TheVariants.{Main}
 use Rattle.nemo_transform.specs.declared.transform.Transform.{Transform}
 use Rattle.nemo_transform.specs.declared.transform.Transform.TheVariants.{Source, Union}
-use Rattle.nemo_ir.specs.Flat.{FlatForm, transform_of}
-use Rattle.nemo_ir.specs.Line.{one_before}
+use Rattle.nemo_ir.specs.Flat.{transform_of}
 use Rattle.nemo_ir.specs.Nodes.{Does, deed_or, origin}
 use Rattle.nemo_ir.specs.Part.{dealt_to, done_by}
 use Rattle.nemo_ir.specs.Value.{ByNumber}
@@ -18,7 +18,7 @@ use Rattle.nemo_plan.specs.LinePlan.{IsLinePlan}
 use Rattle.nemo_plan.proofs.LinePlan.{line_plan}
 use Rattle.nemo_plan.proofs.Standing.{Standing, standing}
 use Rattle.nemo_laws.specs.Solo.{IsOneStage, rows_by, task_rows, tasks_in}
-use Rattle.nemo_laws.proofs.Tasks.{comes, deed_at, deed_in, does, ran}
+use Rattle.nemo_laws.proofs.Tasks.{deed_at, deed_in, ran}
 
 -- how many vertices the plan has
 abbrev pub count : PlanForm → ℕ

@@ -7,8 +7,7 @@ use Rattle.std.specs.BTreeSet.{insert_key}
 use Rattle.std.specs.Ordering.{match_ordering}
 use Rattle.std.specs.declared.cmp.Ordering.TheVariants.{Less, Equal, Greater}
 use Rattle.std.specs.List.{flat_map}
-use Rattle.nemo_base.specs.Places.{map_at}
-use Rattle.nemo_base.specs.declared.settings.Settings.{Settings}
+use Rattle.nemo_base.specs.Settings.{SettingsForm}
 use Rattle.nemo_value.specs.Ascending.{ascending}
 use Rattle.nemo_value.specs.Order.{record_cmp}
 use Rattle.nemo_value.specs.Sorting.{sorted}
@@ -21,8 +20,8 @@ use Rattle.nemo_transform.specs.Gives.{Row}
 use Rattle.nemo_transform.specs.declared.transform.Transform.{Transform}
 use Rattle.nemo_transform.specs.declared.transform.Transform.TheVariants.{Sink}
 use Rattle.nemo_ir.specs.Along.{below, counted}
-use Rattle.nemo_ir.specs.Flat.{FlatForm, is_sink, sink_name, transform_of}
-use Rattle.nemo_ir.specs.Value.{ByNumber, value}
+use Rattle.nemo_ir.specs.Flat.{is_sink, sink_name, transform_of}
+use Rattle.nemo_ir.specs.Value.{value}
 use Rattle.nemo_ir.specs.declared.dag.IrVertex.{IrVertex}
 use Rattle.nemo_ir.specs.declared.flat.FlatVertex.{FlatVertex}
 use Rattle.nemo_ir.proofs.Places.{from_none, last_only, same_item}
@@ -31,7 +30,7 @@ use Rattle.nemo_value.specs.SinkOrder.{by_name, in_order}
 use Rattle.nemo_ir.specs.Meaning.{Reached, by_path, flat_arisen, flat_faults, flat_rows, reached, under}
 use Rattle.nemo_core.specs.declared.event.Event.{Event}
 use Rattle.nemo_plan.specs.Form.{PlanForm}
-use Rattle.nemo_plan.specs.Graph.{transform_in}
+use Rattle.nemo_ir.specs.Nodes.{transform_in}
 use Rattle.nemo_plan.proofs.Ends.{last_sink, no_sink}
 use Rattle.nemo_laws.specs.Solo.{IsOneStage, tasks_in}
 use Rattle.nemo_laws.specs.Written.{block_rows, sink_at, sink_written, written}
@@ -142,10 +141,10 @@ flat_counted f g k (suc c) h =
     ap (λ rows. rows ++ flat_map f (counted (suc k) c)) (h k (omega arith)) ∙ ap (λ more. g k ++ more) (flat_counted f g (suc k) c (λ i l. h i (omega arith)))
 
 -- each block of the last vertex has the rows that its task gives there
-abbrev BlocksAre : PlanForm → Settings → List Event → Type 0
+abbrev BlocksAre : PlanForm → SettingsForm → List Event → Type 0
 BlocksAre p k log = (i : ℕ) → i < tasks_in p → block_rows p k log (count p - 1) i ≡ (ran p (tasks_in p) i (count p - 1)).rows
 
-module _ (p : PlanForm) (o : IsOneStage p) (k : Settings) (log : List Event) (blocks : BlocksAre p k log) where
+module _ (p : PlanForm) (o : IsOneStage p) (k : SettingsForm) (log : List Event) (blocks : BlocksAre p k log) where
   abbrev end_sink : SinkRows
   end_sink = record { name = (end_of p o).name; rows = flat_map (block_rows p k log (count p - 1)) (below (tasks_in p)) }
 

@@ -3,7 +3,7 @@ use Rattle.std.proofs.Common.{arith, ◌≡◌, ◌∙◌, ap, sym, subst, refl,
 use Rattle.std.specs.List.{flat_map, list_any}
 use Rattle.std.proofs.lemmas.Bool.{or_from, or_parts}
 use Rattle.std.proofs.lemmas.Grind.{flat_map-append}
-use Rattle.nemo_base.specs.declared.settings.Settings.{Settings}
+use Rattle.nemo_base.specs.Settings.{SettingsForm}
 use Rattle.nemo_ir.specs.Along.{below, counted}
 use Rattle.nemo_core.specs.State.{held_at}
 use Rattle.nemo_core.specs.Step.{after}
@@ -21,14 +21,14 @@ use Rattle.nemo_laws.proofs.SoloHolds.{launch_of_task}
 use Rattle.nemo_laws.specs.Ready.{busy, ready}
 
 -- the log before a task, and behind it
-pub record Split (k : Settings) (n i : ℕ) : Type 0 where
+pub record Split (k : SettingsForm) (n i : ℕ) : Type 0 where
   pub rest : ℕ
   pub sum : suc i + rest ≡ n
   pub later : List Event
   pub later_is : later ≡ flat_map (turn k) (counted (suc i) rest) ++ Finish ∷ []
   pub is : solo_log k n ≡ turns k i ++ (launch_of_task k i ∷ Commit i ∷ later)
 
-pub solo_split : (k : Settings) (n i : ℕ) → i < n → Split k n i
+pub solo_split : (k : SettingsForm) (n i : ℕ) → i < n → Split k n i
 solo_split k n i lt =
     let at = below_split i n lt in
     let later : List Event = flat_map (turn k) (counted (suc i) at.0) ++ Finish ∷ [] in
@@ -49,7 +49,7 @@ none_in_both : {X : Type 0} (p : X → Bool) (xs ys : List X) → list_any p xs 
 none_in_both p [] ys e h = h
 none_in_both p (x ∷ xs) ys e h = let parts = or_parts (p x) (list_any p xs) e in or_from (p x) (list_any p (xs ++ ys)) parts.0 (none_in_both p xs ys parts.1 h)
 
-others : (k : Settings) (a i r : ℕ) → ((j : ℕ) → i ≤ j → j < i + r → j ≡ a → ⊥) → list_any (is_commit a) (flat_map (turn k) (counted i r)) ≡ false
+others : (k : SettingsForm) (a i r : ℕ) → ((j : ℕ) → i ≤ j → j < i + r → j ≡ a → ⊥) → list_any (is_commit a) (flat_map (turn k) (counted i r)) ≡ false
 others k a i zero f = refl
 others k a i (suc r) f =
     or_from (i == a) (list_any (is_commit a) (flat_map (turn k) (counted (suc i) r)))
@@ -58,10 +58,10 @@ others k a i (suc r) f =
 
 ---- it stays
 
-held_since : (m n : ℕ) (k : Settings) (i j : ℕ) → 1 ≤ m → i < n → i < j → IsHeldFrom i (ready m n k j) (m - 1) i
+held_since : (m n : ℕ) (k : SettingsForm) (i j : ℕ) → 1 ≤ m → i < n → i < j → IsHeldFrom i (ready m n k j) (m - 1) i
 held_since m n k i j some lt before = held_last m n j i some lt ∙ held_before j i before
 
-stays_from : (m n : ℕ) (k : Settings) (i : ℕ) → 1 ≤ m → i < n → (j r : ℕ) → i < j → j + r ≡ n → StaysHeld (line_graph m n) k i (m - 1) i (ready m n k j) (flat_map (turn k) (counted j r) ++ Finish ∷ [])
+stays_from : (m n : ℕ) (k : SettingsForm) (i : ℕ) → 1 ≤ m → i < n → (j r : ℕ) → i < j → j + r ≡ n → StaysHeld (line_graph m n) k i (m - 1) i (ready m n k j) (flat_map (turn k) (counted j r) ++ Finish ∷ [])
 stays_from m n k i some lt j zero before sum = (held_since m n k i j some lt before, held_since m n k i j some lt before)
 stays_from m n k i some lt j (suc r) before sum =
     let later : List Event = flat_map (turn k) (counted (suc j) r) ++ Finish ∷ [] in
@@ -74,7 +74,7 @@ stays_from m n k i some lt j (suc r) before sum =
       ),
     )
 
-pub solo_commits : (m n : ℕ) (k : Settings) (i : ℕ) → 1 ≤ m → i < n → IsFromCommit (line_graph m n) k (solo_log k n) (m - 1) i i
+pub solo_commits : (m n : ℕ) (k : SettingsForm) (i : ℕ) → 1 ≤ m → i < n → IsFromCommit (line_graph m n) k (solo_log k n) (m - 1) i i
 solo_commits m n k i some lt =
     let g = line_graph m n in
     let split = solo_split k n i lt in

@@ -4,21 +4,19 @@ use Rattle.std.specs.List.{flat_map, list_all}
 use Rattle.std.proofs.Math.ListN.{length-replicate}
 use Rattle.std.proofs.lemmas.Bool.{lt-leb}
 use Rattle.nemo_base.specs.Places.{passes}
-use Rattle.nemo_base.specs.declared.settings.Settings.{Settings}
+use Rattle.nemo_base.specs.Settings.{AreInRange, SettingsForm}
 use Rattle.nemo_ir.specs.Along.{below, counted}
 use Rattle.nemo_base.specs.Places.{or_else}
-use Rattle.nemo_core.specs.Reading.{first_of}
 use Rattle.nemo_core.specs.Run.{run_on}
 use Rattle.nemo_core.specs.State.{State, start}
 use Rattle.nemo_core.specs.Step.{conditions, is_decided, is_skewed, refusal, vertex_held}
 use Rattle.nemo_core.specs.declared.event.Event.{Event}
 use Rattle.nemo_core.specs.declared.event.Event.TheVariants.{Launch, Commit, Spent, Finish}
 use Rattle.nemo_plan.specs.Line.{line_graph, line_vertex}
-use Rattle.nemo_laws.specs.Done.{IsRange}
 use Rattle.nemo_laws.specs.Holds.{AreHolds, Decisions, Holds, IsLaunchHold, commit_hold, finish_of, launch_event, least_spent, machine, may_be_spent, may_decide, state_of}
 use Rattle.nemo_laws.specs.Solo.{first_stage, slot_of, solo_log, turn}
 use Rattle.nemo_laws.proofs.Commits.{commit_after, finish_allowed, finish_early}
-use Rattle.nemo_laws.proofs.Counted.{below_range, filter_none, first_none, map_length}
+use Rattle.nemo_laws.proofs.Counted.{filter_none, first_none, map_length}
 use Rattle.nemo_laws.proofs.Launches.{launch_after, launchable_next, task_ready, vertex_at}
 use Rattle.nemo_laws.proofs.Logs.{run_on_append}
 use Rattle.nemo_laws.proofs.Refusals.{fails_at}
@@ -28,19 +26,18 @@ use Rattle.nemo_laws.proofs.States.{start_ready}
 
 ---- nothing is spent, and nothing to be decided
 
-task_unspent : (m n : ℕ) (k : Settings) (i j : ℕ) → j < n → IsRange k → is_none (refusal (line_graph m n) k (ready m n k i) (Spent (first_stage j))) ≡ false
+task_unspent : (m n : ℕ) (k : SettingsForm) (i j : ℕ) → j < n → AreInRange k → is_none (refusal (line_graph m n) k (ready m n k i) (Spent (first_stage j))) ≡ false
 task_unspent m n k i j lt range =
-    let bound : 0 < k.loss_bound = omega (arith, range.bound) in
+    let bound : 0 < k.loss_bound = omega (arith, range.loss_bound.0) in
     fails_at (conditions (line_graph m n) k (ready m n k i) (Spent (first_stage j))) 4
     (ap not (ap (passes (λ row. nat_le k.loss_bound row.losses)) (task_ready m n k i j lt) ∙ lt-leb k.loss_bound 0 bound))
 
-pub none_spent : (m n : ℕ) (k : Settings) (i : ℕ) → IsRange k → least_spent (line_graph m n) k (ready m n k i) ≡ None
+pub none_spent : (m n : ℕ) (k : SettingsForm) (i : ℕ) → AreInRange k → least_spent (line_graph m n) k (ready m n k i) ≡ None
 none_spent m n k i range =
-    ap (λ js. or_else (first_of (may_be_spent (line_graph m n) k (ready m n k i) 0) js) None) (below_range n)
-    ∙ ap (λ o. or_else o None) (first_none (may_be_spent (line_graph m n) k (ready m n k i) 0) n
+    ap (λ o. or_else o None) (first_none (may_be_spent (line_graph m n) k (ready m n k i) 0) n
     (λ j lt. ap (λ b. if b then Some (first_stage j) else None) (task_unspent m n k i j lt range)))
 
-pub none_decided : (m n : ℕ) (k : Settings) (i : ℕ) → filter (may_decide (line_graph m n) (ready m n k i)) (below (length (line_graph m n).vertices)) ≡ []
+pub none_decided : (m n : ℕ) (k : SettingsForm) (i : ℕ) → filter (may_decide (line_graph m n) (ready m n k i)) (below (length (line_graph m n).vertices)) ≡ []
 none_decided m n k i =
     let s : State = ready m n k i in
     filter_none (may_decide (line_graph m n) s) (length (line_graph m n).vertices)
@@ -50,10 +47,10 @@ none_decided m n k i =
 
 ---- one turn is two holds
 
-abbrev pub launch_of_task : Settings → ℕ → Event
+abbrev pub launch_of_task : SettingsForm → ℕ → Event
 launch_of_task k i = Launch i (first_stage i) (slot_of k i) []
 
-pub launch_hold : (m n : ℕ) (k : Settings) (i : ℕ) → 1 ≤ m → i < n → IsRange k → IsLaunchHold (line_graph m n) k (ready m n k i) (launch_of_task k i ∷ [])
+pub launch_hold : (m n : ℕ) (k : SettingsForm) (i : ℕ) → 1 ≤ m → i < n → AreInRange k → IsLaunchHold (line_graph m n) k (ready m n k i) (launch_of_task k i ∷ [])
 launch_hold m n k i some lt range =
     let fit = slot_good k i range in
     let incs : List ℕ = replicate (k.reserved + k.transient) 0 in
@@ -77,7 +74,7 @@ closing_last n i e = ap (λ b. if b then Finish ∷ [] else []) (eq-eqb (suc i) 
 closing_early : (n i : ℕ) → suc i < n → closing n i ≡ []
 closing_early n i lt = let ne : suc i ≡ n → ⊥ = λ e. omega arith in ap (λ b. if b then Finish ∷ [] else []) (ne_eqb (suc i) n ne)
 
-finish_closing : (m n : ℕ) (k : Settings) (i r : ℕ) → 1 ≤ m → i + suc r ≡ n → finish_of (line_graph m n) k (ready m n k (suc i)) ≡ closing n i
+finish_closing : (m n : ℕ) (k : SettingsForm) (i r : ℕ) → 1 ≤ m → i + suc r ≡ n → finish_of (line_graph m n) k (ready m n k (suc i)) ≡ closing n i
 finish_closing m n k i zero some e =
     let last : suc i ≡ n = omega arith in
     ap (λ j. if is_none (refusal (line_graph m n) k (ready m n k j) Finish) then Finish ∷ [] else []) last
@@ -88,17 +85,17 @@ finish_closing m n k i (suc r) some e =
     ap (λ o. if is_none o then Finish ∷ [] else []) (finish_early m n k (suc i) some early)
     ∙ sym (closing_early n i early)
 
-pub commit_held : (m n : ℕ) (k : Settings) (i r : ℕ) → 1 ≤ m → i + suc r ≡ n → Commit i ∷ closing n i ≡ commit_hold (line_graph m n) k [] (busy m n k i (slot_of k i)) i
+pub commit_held : (m n : ℕ) (k : SettingsForm) (i r : ℕ) → 1 ≤ m → i + suc r ≡ n → Commit i ∷ closing n i ≡ commit_hold (line_graph m n) k [] (busy m n k i (slot_of k i)) i
 commit_held m n k i r some e =
     ap (λ es. Commit i ∷ es) (sym (finish_closing m n k i r some e))
     ∙ ap (λ s. Commit i ∷ finish_of (line_graph m n) k s) (sym (commit_after m n k i (slot_of k i) (omega arith)))
 
 ---- all of them
 
-abbrev pub turn_holds : Settings → ℕ → ℕ → List (List Event)
+abbrev pub turn_holds : SettingsForm → ℕ → ℕ → List (List Event)
 turn_holds k n i = (launch_of_task k i ∷ []) ∷ (Commit i ∷ closing n i) ∷ []
 
-holds_from : (m n : ℕ) (k : Settings) → 1 ≤ m → IsRange k → (i r : ℕ) → i + r ≡ n → (log : List Event) → (0 < r → state_of (line_graph m n) k log ≡ ready m n k i)
+holds_from : (m n : ℕ) (k : SettingsForm) → 1 ≤ m → AreInRange k → (i r : ℕ) → i + r ≡ n → (log : List Event) → (0 < r → state_of (line_graph m n) k log ≡ ready m n k i)
     → AreHolds (line_graph m n) k [] log (flat_map (turn_holds k n) (counted i r))
 holds_from m n k some range i zero e log is = tt
 holds_from m n k some range i (suc r) e log is =
@@ -121,13 +118,13 @@ holds_from m n k some range i (suc r) e log is =
       ),
     )
 
-joined : (n : ℕ) (k : Settings) (i r : ℕ) → i + suc r ≡ n → flat_map (turn k) (counted i (suc r)) ++ Finish ∷ [] ≡ flat_map (λ es. es) (flat_map (turn_holds k n) (counted i (suc r)))
+joined : (n : ℕ) (k : SettingsForm) (i r : ℕ) → i + suc r ≡ n → flat_map (turn k) (counted i (suc r)) ++ Finish ∷ [] ≡ flat_map (λ es. es) (flat_map (turn_holds k n) (counted i (suc r)))
 joined n k i zero e = ap (λ es. launch_of_task k i ∷ Commit i ∷ (es ++ [])) (sym (closing_last n i (omega arith)))
 joined n k i (suc r) e =
     ap (λ es. launch_of_task k i ∷ Commit i ∷ es) (joined n k (suc i) r (omega arith))
     ∙ ap (λ es. launch_of_task k i ∷ Commit i ∷ (es ++ flat_map (λ es. es) (flat_map (turn_holds k n) (counted (suc i) (suc r))))) (sym (closing_early n i (omega arith)))
 
-pub solo_holds : (m n : ℕ) (k : Settings) → 1 ≤ m → 1 ≤ n → IsRange k → Holds (line_graph m n) k [] (solo_log k n)
+pub solo_holds : (m n : ℕ) (k : SettingsForm) → 1 ≤ m → 1 ≤ n → AreInRange k → Holds (line_graph m n) k [] (solo_log k n)
 solo_holds m zero k some tasks range = absurd (omega arith)
 solo_holds m (suc n) k some tasks range =
     let e : 0 + suc n ≡ suc n = omega arith in

@@ -2,7 +2,7 @@
 use Rattle.std.proofs.Common.{arith, ◌≡◌, ◌∙◌, ap, sym, subst, refl, ℕ, zero, suc, ◌+◌, ◌-◌, ◌<◌, ◌≤◌, List, [], ◌∷◌, ◌++◌, length, Some, append-nil, length-append}
 use Rattle.std.specs.List.{flat_map}
 use Rattle.std.proofs.Math.ListN.{get_or-append}
-use Rattle.nemo_base.specs.declared.settings.Settings.{Settings}
+use Rattle.nemo_base.specs.Settings.{AreInRange, SettingsForm}
 use Rattle.nemo_ir.specs.Along.{counted}
 use Rattle.nemo_core.specs.Run.{run_on}
 use Rattle.nemo_core.specs.State.{State, held_at, holder, start}
@@ -13,7 +13,6 @@ use Rattle.nemo_core.specs.declared.event.Outcome.TheVariants.{Done}
 use Rattle.nemo_plan.specs.Form.{PlanForm, graph}
 use Rattle.nemo_plan.specs.Line.{line_graph}
 use Rattle.nemo_laws.specs.Data.{Given, data_of, given_from, gives_nothing, task_gives, with_attempt}
-use Rattle.nemo_laws.specs.Done.{IsRange}
 use Rattle.nemo_laws.specs.Holds.{state_of}
 use Rattle.nemo_laws.specs.Legal.{Faultless, Legal, LegalFrom, given_by}
 use Rattle.nemo_laws.specs.Solo.{first_stage, slot_of, solo_log, turn}
@@ -47,7 +46,7 @@ more p s given (Launch attempt task slot reads) = record { extra = task_gives p 
 more p s given _ = record { extra = []; is = sym (append-nil given) }
 
 -- what an attempt gives stays
-pub given_stays : (p : PlanForm) (k : Settings) (s : State) (given : List Given) (es : List Event) (a : ℕ) → a < length given → given_by (given_from p k s given es) a ≡ given_by given a
+pub given_stays : (p : PlanForm) (k : SettingsForm) (s : State) (given : List Given) (es : List Event) (a : ℕ) → a < length given → given_by (given_from p k s given es) a ≡ given_by given a
 given_stays p k s given [] a lt = refl
 given_stays p k s given (e ∷ es) a lt =
     let m = more p s given e in
@@ -56,12 +55,12 @@ given_stays p k s given (e ∷ es) a lt =
     ∙ ap (λ all. given_by all a) m.is
     ∙ get_or-append given m.extra gives_nothing a lt
 
-pub given_append : (p : PlanForm) (k : Settings) (s : State) (given : List Given) (es fs : List Event) → given_from p k s given (es ++ fs) ≡ given_from p k (run_on (graph p) k s es) (given_from p k s given es) fs
+pub given_append : (p : PlanForm) (k : SettingsForm) (s : State) (given : List Given) (es fs : List Event) → given_from p k s given (es ++ fs) ≡ given_from p k (run_on (graph p) k s es) (given_from p k s given es) fs
 given_append p k s given [] fs = refl
 given_append p k s given (e ∷ es) fs = given_append p k (after (graph p) k s e) (with_attempt p s given e) es fs
 
 -- each turn is one attempt
-turns_given : (p : PlanForm) (k : Settings) (i : ℕ) → length (data_of p k (turns k i)) ≡ i
+turns_given : (p : PlanForm) (k : SettingsForm) (i : ℕ) → length (data_of p k (turns k i)) ≡ i
 turns_given p k zero = refl
 turns_given p k (suc i) =
     let s = run_on (graph p) k (start (graph p) k) (turns k i) in
@@ -70,11 +69,11 @@ turns_given p k (suc i) =
     ∙ one_more (data_of p k (turns k i)) (task_gives p (data_of p k (turns k i)) s (first_stage i)) i (turns_given p k i)
 
 -- what attempt i gives is what task i gives, given some attempts before
-pub record IsGiven (p : PlanForm) (m n : ℕ) (k : Settings) (i : ℕ) : Type 0 where
+pub record IsGiven (p : PlanForm) (m n : ℕ) (k : SettingsForm) (i : ℕ) : Type 0 where
   pub before : List Given
   pub is : given_by (data_of p k (solo_log k n)) i ≡ task_gives p before (ready m n k i) (first_stage i)
 
-pub solo_given : (p : PlanForm) (m n : ℕ) (k : Settings) (i : ℕ) → graph p ≡ line_graph m n → 1 ≤ m → i < n → IsGiven p m n k i
+pub solo_given : (p : PlanForm) (m n : ℕ) (k : SettingsForm) (i : ℕ) → graph p ≡ line_graph m n → 1 ≤ m → i < n → IsGiven p m n k i
 solo_given p m n k i e some lt =
     let split = solo_split k n i lt in
     let before : List Given = data_of p k (turns k i) in
@@ -96,10 +95,10 @@ solo_given p m n k i e some lt =
 ---- the log is legal
 
 -- no task has a fault, whatever the attempts before it gave
-abbrev pub AllFaultless : PlanForm → ℕ → ℕ → Settings → Type 0
+abbrev pub AllFaultless : PlanForm → ℕ → ℕ → SettingsForm → Type 0
 AllFaultless p m n k = (i : ℕ) → i < n → (given : List Given) → Faultless p (task_gives p given (ready m n k i) (first_stage i))
 
-legal_from : (p : PlanForm) (m n : ℕ) (k : Settings) → graph p ≡ line_graph m n → 1 ≤ m → IsRange k → AllFaultless p m n k → (i r : ℕ) → i + r ≡ n → (given : List Given) → length given ≡ i
+legal_from : (p : PlanForm) (m n : ℕ) (k : SettingsForm) → graph p ≡ line_graph m n → 1 ≤ m → AreInRange k → AllFaultless p m n k → (i r : ℕ) → i + r ≡ n → (given : List Given) → length given ≡ i
     → LegalFrom p k (ready m n k i) given (flat_map (turn k) (counted i r) ++ Finish ∷ [])
 legal_from p m n k e some range good i zero sum given size =
     let last : i ≡ n = omega arith in
@@ -123,14 +122,14 @@ legal_from p m n k e some range good i (suc r) sum given size =
       ),
     )
 
-pub solo_legal : (p : PlanForm) (m n : ℕ) (k : Settings) → graph p ≡ line_graph m n → 1 ≤ m → IsRange k → AllFaultless p m n k → Legal p k (solo_log k n)
+pub solo_legal : (p : PlanForm) (m n : ℕ) (k : SettingsForm) → graph p ≡ line_graph m n → 1 ≤ m → AreInRange k → AllFaultless p m n k → Legal p k (solo_log k n)
 solo_legal p m n k e some range good =
     let begin : start (graph p) k ≡ ready m n k 0 = ap (λ g. start g k) e ∙ start_ready m n k some in
     subst (λ s. LegalFrom p k s [] (solo_log k n)) (sym begin) (legal_from p m n k e some range good 0 n (omega arith) [] refl)
 
 ---- the blocks of the sink
 
-pub solo_blocks : (p : PlanForm) (m n : ℕ) (k : Settings) (i : ℕ) → graph p ≡ line_graph m n → 1 ≤ m → i < n → block_rows p k (solo_log k n) (m - 1) i ≡ (given_by (data_of p k (solo_log k n)) i (m - 1)).rows
+pub solo_blocks : (p : PlanForm) (m n : ℕ) (k : SettingsForm) (i : ℕ) → graph p ≡ line_graph m n → 1 ≤ m → i < n → block_rows p k (solo_log k n) (m - 1) i ≡ (given_by (data_of p k (solo_log k n)) i (m - 1)).rows
 solo_blocks p m n k i e some lt =
     let state : state_of (graph p) k (solo_log k n) ≡ over Done (ready m n k n) = ap (λ g. state_of g k (solo_log k n)) e ∙ solo_state m n k some in
     let held : held_at (ready m n k n) (m - 1) i ≡ Some (from_attempt i) = held_last m n n i some lt ∙ held_before n i lt in

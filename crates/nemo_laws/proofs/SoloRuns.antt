@@ -1,12 +1,12 @@
 -- The run of a plan of one stage on one thread is done, and gives the sinks what the flat job gives them.
-use Rattle.std.proofs.Common.{arith, ◌≡◌, ◌∙◌, ap, sym, subst, refl, ℕ, zero, suc, ◌+◌, ◌-◌, ◌<◌, ◌≤◌, List, [], ◌∷◌, ◌++◌, length, map}
-use Rattle.nemo_base.specs.declared.settings.Settings.{Settings}
+use Rattle.std.proofs.Common.{arith, ◌≡◌, ◌∙◌, ap, sym, subst, refl, ℕ, zero, suc, ◌+◌, ◌-◌, ◌<◌, ◌≤◌, List, [], ◌++◌, map}
+use Rattle.nemo_base.specs.Settings.{AreInRange, SettingsForm}
 use Rattle.nemo_transform.specs.Brought.{all_faults}
 use Rattle.nemo_ir.specs.Along.{counted}
 use Rattle.nemo_ir.specs.Meaning.{flat_faults}
 use Rattle.nemo_plan.specs.Form.{PlanForm, graph}
 use Rattle.nemo_laws.specs.Data.{Given, task_gives}
-use Rattle.nemo_laws.specs.Done.{IsDoneRun, IsRange, SoloLaw}
+use Rattle.nemo_laws.specs.Done.{IsDoneRun, SoloLaw}
 use Rattle.nemo_laws.specs.Holds.{Holds}
 use Rattle.nemo_laws.specs.Legal.{Faultless}
 use Rattle.nemo_laws.specs.Ready.{ready}
@@ -25,7 +25,7 @@ none_from : (gives : Given) (k c : ℕ) → ((v : ℕ) → v < k + c → (gives 
 none_from gives k zero f = refl
 none_from gives k (suc c) f = ap (λ fs. fs ++ all_faults (map gives (counted (suc k) c))) (f k (omega arith)) ∙ none_from gives (suc k) c (λ v l. f v (omega arith))
 
-module _ (p : PlanForm) (k : Settings) (o : IsOneStage p) (range : IsRange k) (clean : flat_faults p.flat ≡ []) where
+module _ (p : PlanForm) (k : SettingsForm) (o : IsOneStage p) (range : AreInRange k) (clean : flat_faults p.flat ≡ []) where
   abbrev m : ℕ
   m = count p
 

@@ -3,7 +3,7 @@ use Rattle.std.proofs.Common.{arith, ◌≡◌, ◌∙◌, ap, sym, refl, ℕ, s
 use Rattle.std.proofs.lemmas.Bool.{le-ltb, cases_Bool, eqb-true, eqb-false}
 use Rattle.nemo_base.specs.Places.{map_at}
 use Rattle.nemo_base.specs.Places.{is_in}
-use Rattle.nemo_base.specs.declared.settings.Settings.{Settings}
+use Rattle.nemo_base.specs.Settings.{SettingsForm}
 use Rattle.nemo_ir.specs.Along.{below}
 use Rattle.nemo_core.specs.State.{start, fresh_task, fresh_blocks}
 use Rattle.nemo_core.specs.declared.event.HeldBy.{HeldBy}
@@ -34,7 +34,7 @@ start_blocks m n v some =
     ap (λ b. if b then replicate n gone else []) (is_last m v some)
     ∙ ap (λ xs. if suc v == m then xs else []) (fresh_none n)
 
-pub start_ready : (m n : ℕ) (k : Settings) → 1 ≤ m → start (line_graph m n) k ≡ ready m n k 0
+pub start_ready : (m n : ℕ) (k : SettingsForm) → 1 ≤ m → start (line_graph m n) k ≡ ready m n k 0
 start_ready m n k some =
     let blocks : map_at (fresh_blocks (line_graph m n)) 0 (line_graph m n).vertices ≡ map (blocks_after m n 0) (below m) =
     map_at_below (fresh_blocks (line_graph m n)) (line_vertex m n) m

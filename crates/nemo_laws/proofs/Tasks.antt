@@ -1,11 +1,9 @@
 -- What the tasks of a plan of one stage compute, vertex by vertex.
-use Rattle.std.proofs.Common.{arith, ◌≡◌, ◌∙◌, ap, sym, subst, refl, ℕ, zero, suc, ◌+◌, ◌-◌, ◌<◌, ◌≤◌, ◌==◌, List, [], ◌∷◌, ◌++◌, length, map, slice_get, Bool, true, false, cond, Option, Some, None, eq-eqb, inl, inr}
+use Rattle.std.proofs.Common.{arith, ◌≡◌, ◌∙◌, ap, sym, subst, refl, ℕ, zero, suc, ◌+◌, ◌<◌, ◌≤◌, ◌==◌, List, [], ◌∷◌, ◌++◌, length, map, slice_get, Bool, true, false, cond, Option, Some, None, eq-eqb, inl, inr}
 use Rattle.std.proofs.lemmas.Bool.{cases_eq}
 use Rattle.std.proofs.lemmas.Bool.Decides.{nat_tests}
-use Rattle.nemo_base.specs.Places.{map_at}
 use Rattle.nemo_base.specs.declared.annotation.Pattern.TheVariants.{OneToOne}
-use Rattle.nemo_transform.specs.declared.transform.Transform.{Transform}
-use Rattle.nemo_ir.specs.Along.{below, counted}
+use Rattle.nemo_ir.specs.Along.{counted}
 use Rattle.nemo_ir.specs.Flat.{FlatForm, transform_of}
 use Rattle.nemo_ir.specs.Nodes.{Deed, Nothing, Node, deed_or, nodes, origin}
 use Rattle.nemo_ir.specs.Part.{brought, done_by}

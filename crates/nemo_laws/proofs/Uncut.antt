@@ -1,5 +1,5 @@
 -- An assignment that deals every bucket to the last task of each vertex.
-use Rattle.std.proofs.Common.{arith, ◌≡◌, ◌∙◌, ap, sym, refl, ℕ, zero, suc, ◌+◌, ◌-◌, ◌<◌, ◌≤◌, ◌&&◌, List, [], length, replicate, slice_get, true, Some, Option, None, nat_le, nat_lt}
+use Rattle.std.proofs.Common.{arith, ◌≡◌, ◌∙◌, ap, sym, ℕ, suc, ◌-◌, ◌≤◌, ◌&&◌, List, [], length, replicate, slice_get, true, Some, Option, None, nat_le, nat_lt}
 use Rattle.std.proofs.Math.ListN.{length-replicate}
 use Rattle.std.proofs.lemmas.Bool.{leb-true}
 use Rattle.std.proofs.lemmas.Option.{slice_get_within}

@@ -1,7 +1,7 @@
 -- What the attempts of a log compute.
 use Rattle.std.specs.Prelude.{ℕ, ◌==◌, List, [], ◌∷◌, ◌++◌, map, slice_get, slice_index_or, Option, Some, None, if◌then◌else◌}
 use Rattle.nemo_base.specs.declared.id.TaskId.{TaskId}
-use Rattle.nemo_base.specs.declared.settings.Settings.{Settings}
+use Rattle.nemo_base.specs.Settings.{SettingsForm}
 use Rattle.nemo_transform.specs.Brought.{nothing}
 use Rattle.nemo_ir.specs.Nodes.{Feed, Node, nodes, origin}
 use Rattle.nemo_ir.specs.Part.{Parts, brought, done_by}
@@ -83,10 +83,10 @@ abbrev pub with_attempt : PlanForm → State → List Given → Event → List G
 with_attempt p s given (Launch attempt task slot reads) = given ++ task_gives p given s task ∷ []
 with_attempt p s given _ = given
 
-abbrev pub given_from : PlanForm → Settings → State → List Given → List Event → List Given
+abbrev pub given_from : PlanForm → SettingsForm → State → List Given → List Event → List Given
 given_from p k s given [] = given
 given_from p k s given (e ∷ es) = given_from p k (after (graph p) k s e) (with_attempt p s given e) es
 
 -- what each attempt of a log gives, by its number
-abbrev pub data_of : PlanForm → Settings → List Event → List Given
+abbrev pub data_of : PlanForm → SettingsForm → List Event → List Given
 data_of p k log = given_from p k (start (graph p) k) [] log

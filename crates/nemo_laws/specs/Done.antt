@@ -1,7 +1,7 @@
 -- What holds of a run that is done.
-use Rattle.std.specs.Prelude.{◌≡◌, ◌≤◌, ◌+◌, List, [], ◌∷◌, ◌++◌}
+use Rattle.std.specs.Prelude.{◌≡◌, List, [], ◌∷◌, ◌++◌}
 use Rattle.nemo_base.specs.declared.script.ScriptLine.{ScriptLine}
-use Rattle.nemo_base.specs.declared.settings.Settings.{Settings}
+use Rattle.nemo_base.specs.Settings.{AreInRange, SettingsForm}
 use Rattle.nemo_core.specs.declared.event.Event.{Event}
 use Rattle.nemo_core.specs.declared.event.Event.TheVariants.{Finish}
 use Rattle.nemo_ir.specs.Meaning.{flat_faults, flat_rows}
@@ -12,21 +12,15 @@ use Rattle.nemo_laws.specs.Solo.{IsOneStage, solo_log, tasks_in}
 use Rattle.nemo_laws.specs.Written.{FromCommits, written}
 
 -- its log is legal and made of holds, and ends in Finish, and each block of each sink is from one commit
-pub record IsDoneRun (p : PlanForm) (k : Settings) (script : List ScriptLine) (log : List Event) : Type 0 where
+pub record IsDoneRun (p : PlanForm) (k : SettingsForm) (script : List ScriptLine) (log : List Event) : Type 0 where
   pub legal : Legal p k log
   pub holds : Holds (graph p) k script log
   pub before : List Event
   pub ends : log ≡ before ++ Finish ∷ []
   pub commits : FromCommits p k log
 
--- the settings that runs are for, as far as they matter here
-pub record IsRange (k : Settings) : Type 0 where
-  pub reserved : 1 ≤ k.reserved
-  pub slots : k.reserved + k.transient ≤ 64
-  pub bound : 1 ≤ k.loss_bound
-
 -- Every plan of one stage, of whose flat job no fault reaches a sink, is done by the run on one thread, and then its
 -- sinks have what the flat job gives them.
 abbrev pub SoloLaw : Type 0
-SoloLaw = (p : PlanForm) (k : Settings) → IsOneStage p → IsRange k → flat_faults p.flat ≡ []
+SoloLaw = (p : PlanForm) (k : SettingsForm) → IsOneStage p → AreInRange k → flat_faults p.flat ≡ []
     → IsDoneRun p k [] (solo_log k (tasks_in p)) × (written p k (solo_log k (tasks_in p)) ≡ flat_rows p.flat)

@@ -7,7 +7,7 @@ use Rattle.nemo_base.specs.declared.id.TaskId.{TaskId}
 use Rattle.nemo_base.specs.declared.script.Action.{Action}
 use Rattle.nemo_base.specs.declared.script.Action.TheVariants.{Evict as EvictLine, Repartition as RepartitionLine}
 use Rattle.nemo_base.specs.declared.script.ScriptLine.{ScriptLine}
-use Rattle.nemo_base.specs.declared.settings.Settings.{Settings}
+use Rattle.nemo_base.specs.Settings.{SettingsForm}
 use Rattle.nemo_value.specs.declared.expr.Kind.{Kind}
 use Rattle.nemo_transform.specs.Gives.{Row}
 use Rattle.nemo_ir.specs.Along.{below}
@@ -20,31 +20,31 @@ use Rattle.nemo_core.specs.State.{State, Machine, blocks_read, start}
 use Rattle.nemo_core.specs.Step.{after, is_decided, is_going, is_skewed, refusal, vertex_held}
 
 -- the state that a log leaves
-abbrev pub state_of : TaskGraph → Settings → List Event → State
+abbrev pub state_of : TaskGraph → SettingsForm → List Event → State
 state_of g k log = run_on g k (start g k) log
 
 ---- the script
 
 -- the event of a line: a repartitioning that isn't allowed is logged as ignored
-abbrev pub event_of : TaskGraph → Settings → State → Action → Event
+abbrev pub event_of : TaskGraph → SettingsForm → State → Action → Event
 event_of g k s (EvictLine slot) = Evict slot
 event_of g k s (RepartitionLine v cuts) = if is_none (refusal g k s (Repartition v cuts)) then Repartition v cuts else Ignored v cuts
 
 -- the events of the lines that are due after n commits, in order
-abbrev pub fired : TaskGraph → Settings → ℕ → List ScriptLine → State → List Event
+abbrev pub fired : TaskGraph → SettingsForm → ℕ → List ScriptLine → State → List Event
 fired g k n [] s = []
 fired g k n (line ∷ lines) s =
     if line.at == n then event_of g k s line.action ∷ fired g k n lines (after g k s (event_of g k s line.action)) else fired g k n lines s
 
 ---- what is spent
 
-abbrev pub may_be_spent : TaskGraph → Settings → State → ℕ → ℕ → Option TaskId
+abbrev pub may_be_spent : TaskGraph → SettingsForm → State → ℕ → ℕ → Option TaskId
 may_be_spent g k s stage i =
     let t : TaskId = record { stage = stage; index = i } in
     if is_none (refusal g k s (Spent t)) then Some t else None
 
 -- the least needed idle task whose losses have reached the bound
-abbrev pub least_spent : TaskGraph → Settings → State → Option TaskId
+abbrev pub least_spent : TaskGraph → SettingsForm → State → Option TaskId
 least_spent g k s = first_task g (may_be_spent g k s)
 
 ---- decisions and a launch
@@ -59,7 +59,7 @@ Decisions [] [] = Unit {0}
 Decisions (v ∷ vs) (Decide u cuts ∷ es) = (u ≡ v) × Decisions vs es
 Decisions _ _ = ⊥
 
-abbrev pub machine : TaskGraph → Settings → State → Machine
+abbrev pub machine : TaskGraph → SettingsForm → State → Machine
 machine g k s = record { graph = g; settings = k; state = s; taken = 0 }
 
 abbrev pub launch_event : Machine → ℕ → Option TaskId → List Event
@@ -67,11 +67,11 @@ launch_event m slot (Some t) = launch_of m t slot ∷ []
 launch_event m slot None = []
 
 -- the launch of the least task that may be launched on the slot, where there is one
-abbrev pub launch_on : TaskGraph → Settings → State → ℕ → List Event
+abbrev pub launch_on : TaskGraph → SettingsForm → State → ℕ → List Event
 launch_on g k s slot = launch_event (machine g k s) slot (launchable (machine g k s) slot)
 
 -- where nothing is spent, a decision for each vertex that may be decided, and then a launch on a slot
-pub record IsLaunchHold (g : TaskGraph) (k : Settings) (s : State) (es : List Event) : Type 0 where
+pub record IsLaunchHold (g : TaskGraph) (k : SettingsForm) (s : State) (es : List Event) : Type 0 where
   pub unspent : least_spent g k s ≡ None
   pub decisions : List Event
   pub decided : Decisions (filter (may_decide g s) (below (length g.vertices))) decisions
@@ -81,11 +81,11 @@ pub record IsLaunchHold (g : TaskGraph) (k : Settings) (s : State) (es : List Ev
 
 ---- a commit
 
-abbrev pub finish_of : TaskGraph → Settings → State → List Event
+abbrev pub finish_of : TaskGraph → SettingsForm → State → List Event
 finish_of g k s = if is_none (refusal g k s Finish) then Finish ∷ [] else []
 
 -- a commit, the script lines that are due then, and Finish exactly where every sink block is held. Nothing is dropped yet.
-abbrev pub commit_hold : TaskGraph → Settings → List ScriptLine → State → ℕ → List Event
+abbrev pub commit_hold : TaskGraph → SettingsForm → List ScriptLine → State → ℕ → List Event
 commit_hold g k script s a =
     let t = after g k s (Commit a) in
     let lines = fired g k t.commits script t in
@@ -115,7 +115,7 @@ lost_read g s n = not (are_held_by (blocks_read g s n.task) n.reads)
 ---- holds
 
 -- what one hold adds to the log so far
-abbrev pub IsHold : TaskGraph → Settings → List ScriptLine → List Event → List Event → Type 0
+abbrev pub IsHold : TaskGraph → SettingsForm → List ScriptLine → List Event → List Event → Type 0
 IsHold g k script log es =
     let s = state_of g k log in
     ((t : TaskId) × (least_spent g k s ≡ Some t) × (es ≡ Spent t ∷ []))
@@ -125,12 +125,12 @@ IsHold g k script log es =
     ⊎ (((a : ℕ) × (v : ℕ) × (kind : Kind) × (rec : Row) × (es ≡ Fault a v kind rec ∷ []))
     ⊎ (es ≡ Starved ∷ [])))))
 
-abbrev pub AreHolds : TaskGraph → Settings → List ScriptLine → List Event → List (List Event) → Type 0
+abbrev pub AreHolds : TaskGraph → SettingsForm → List ScriptLine → List Event → List (List Event) → Type 0
 AreHolds g k script log [] = Unit {0}
 AreHolds g k script log (es ∷ holds) = IsHold g k script log es × AreHolds g k script (log ++ es) holds
 
 -- the log begins with the lines that are due before any commit, and goes on hold by hold
-abbrev pub Holds : TaskGraph → Settings → List ScriptLine → List Event → Type 0
+abbrev pub Holds : TaskGraph → SettingsForm → List ScriptLine → List Event → Type 0
 Holds g k script log =
     let first = fired g k 0 script (start g k) in
     (holds : List (List Event)) × (log ≡ first ++ flat_map (λ es. es) holds) × AreHolds g k script first holds

@@ -1,5 +1,5 @@
 -- Which logs are legal: each event is a step, and what it says of the data is true.
-use Rattle.std.specs.Prelude.{◌≡◌, ℕ, ◌+◌, ◌%◌, ◌==◌, List, [], ◌∷◌, length, map, count_by, slice_get, slice_index_or, Option, Some, None, if◌then◌else◌}
+use Rattle.std.specs.Prelude.{◌≡◌, ℕ, List, [], ◌∷◌, length, map, slice_get, slice_index_or, Option, Some, None}
 use Rattle.std.specs.List.{flat_map}
 use Rattle.std.specs.Ordering.{ordering_then}
 use Rattle.std.specs.declared.cmp.Ordering.{Ordering}
@@ -9,7 +9,7 @@ use Rattle.nemo_value.specs.Order.{record_cmp}
 use Rattle.nemo_base.specs.LeastCuts.{IsLeastCuts}
 use Rattle.nemo_base.specs.Samples.{counts_of, sampled}
 use Rattle.nemo_base.specs.declared.graph.VertexRow.{VertexRow}
-use Rattle.nemo_base.specs.declared.settings.Settings.{Settings}
+use Rattle.nemo_base.specs.Settings.{SettingsForm}
 use Rattle.nemo_transform.specs.Brought.{Arisen, all_faults}
 use Rattle.nemo_transform.specs.Gives.{Row}
 use Rattle.nemo_ir.specs.Along.{below}
@@ -20,7 +20,6 @@ use Rattle.nemo_core.specs.declared.event.Event.{Event}
 use Rattle.nemo_core.specs.declared.event.Event.TheVariants.{Commit, Decide, Fault}
 use Rattle.nemo_plan.specs.Form.{PlanForm, graph}
 use Rattle.nemo_laws.specs.Data.{Given, gives_nothing, with_attempt}
-
 
 abbrev pub all_vertices : PlanForm → List ℕ
 all_vertices p = below (length p.dag.vertices)
@@ -43,7 +42,7 @@ pub record FirstFault (p : PlanForm) (gives : Given) (fault : Arisen ℕ) : Type
   pub named : fault.vertex ≡ origin p.dag vertex
 
 -- the sample of a Trigger's blocks, as they are held
-abbrev pub trigger_sample : Settings → State → List Given → ℕ → ℕ → List Row
+abbrev pub trigger_sample : SettingsForm → State → List Given → ℕ → ℕ → List Row
 trigger_sample k s given u tasks = flat_map (λ j. sampled k.sample 0 (given_by given (holder (held_at s u j)) u).rows) (below tasks)
 
 abbrev pub row_tasks : Option VertexRow → ℕ
@@ -58,20 +57,20 @@ abbrev pub row_of : PlanForm → ℕ → Option VertexRow
 row_of p v = slice_get (graph p).vertices v
 
 -- over each Trigger in-edge of a vertex
-abbrev pub sample : PlanForm → Settings → State → List Given → ℕ → List Row
+abbrev pub sample : PlanForm → SettingsForm → State → List Given → ℕ → List Row
 sample p k s given v = flat_map (λ u. trigger_sample k s given u (row_tasks (row_of p u))) (row_triggers (row_of p v))
 
 -- what an event says of the data is true
-abbrev pub IsHonest : PlanForm → Settings → State → List Given → Event → Type 0
+abbrev pub IsHonest : PlanForm → SettingsForm → State → List Given → Event → Type 0
 IsHonest p k s given (Commit a) = Faultless p (given_by given a)
 IsHonest p k s given (Fault a x kind rec) = FirstFault p (given_by given a) (record { vertex = x; kind = kind; rec = rec })
 IsHonest p k s given (Decide v cuts) = IsLeastCuts (counts_of (sample p k s given v)) (row_tasks (row_of p v)) cuts
 IsHonest p k s given _ = Unit {0}
 
-abbrev pub LegalFrom : PlanForm → Settings → State → List Given → List Event → Type 0
+abbrev pub LegalFrom : PlanForm → SettingsForm → State → List Given → List Event → Type 0
 LegalFrom p k s given [] = Unit {0}
 LegalFrom p k s given (e ∷ es) = (refusal (graph p) k s e ≡ None) × IsHonest p k s given e × LegalFrom p k (after (graph p) k s e) (with_attempt p s given e) es
 
 -- a legal history of a plan
-abbrev pub Legal : PlanForm → Settings → List Event → Type 0
+abbrev pub Legal : PlanForm → SettingsForm → List Event → Type 0
 Legal p k log = LegalFrom p k (start (graph p) k) [] log

@@ -1,7 +1,6 @@
 pub mod Data
 pub mod Done
 pub mod Holds
-pub mod LeastCuts
 pub mod Legal
 pub mod Losses
 pub mod Parts

@@ -1,6 +1,6 @@
 -- The states of the run on one thread of a line that is one stage: m vertices with n tasks each.
 use Rattle.std.specs.Prelude.{ℕ, suc, ◌+◌, ◌==◌, nat_lt, Bool, List, [], ◌∷◌, map, replicate, Option, Some, None, if◌then◌else◌}
-use Rattle.nemo_base.specs.declared.settings.Settings.{Settings}
+use Rattle.nemo_base.specs.Settings.{SettingsForm}
 use Rattle.nemo_ir.specs.Along.{below}
 use Rattle.nemo_core.specs.State.{State, fresh_cuts, fresh_task}
 use Rattle.nemo_core.specs.declared.event.HeldBy.{HeldBy}
@@ -31,7 +31,7 @@ abbrev pub task_while : ℕ → ℕ → ℕ → TaskRow
 task_while i slot j = if j == i then busy_task i slot else fresh_task
 
 -- after the tasks 0 to i - 1 have committed
-abbrev pub ready : ℕ → ℕ → Settings → ℕ → State
+abbrev pub ready : ℕ → ℕ → SettingsForm → ℕ → State
 ready m n k i = record {
   outcome = Going;
   launches = i;
@@ -44,5 +44,5 @@ ready m n k i = record {
 }
 
 -- after the launch of task i on a slot
-abbrev pub busy : ℕ → ℕ → Settings → ℕ → ℕ → State
+abbrev pub busy : ℕ → ℕ → SettingsForm → ℕ → ℕ → State
 busy m n k i slot = record (ready m n k i) { launches = suc i; tasks = map (task_while i slot) (below n) ∷ [] }

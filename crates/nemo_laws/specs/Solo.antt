@@ -2,7 +2,7 @@
 use Rattle.std.specs.Prelude.{◌≡◌, ℕ, ◌+◌, ◌%◌, ◌==◌, true, List, [], ◌∷◌, ◌++◌, Option, Some, None, if◌then◌else◌}
 use Rattle.std.specs.List.{flat_map}
 use Rattle.nemo_base.specs.declared.id.TaskId.{TaskId}
-use Rattle.nemo_base.specs.declared.settings.Settings.{Settings}
+use Rattle.nemo_base.specs.Settings.{SettingsForm}
 use Rattle.nemo_core.specs.declared.event.Event.{Event}
 use Rattle.nemo_core.specs.declared.event.Event.TheVariants.{Launch, Commit, Finish}
 use Rattle.nemo_transform.specs.Gives.{Row, answers, rows_in}
@@ -18,18 +18,18 @@ use Rattle.nemo_plan.specs.Form.{PlanForm}
 
 -- the slot of a launch: among the m slots that the tasks fit on, the one at place `launches so far modulo m`. That is a
 -- transient one where there is one.
-abbrev pub slot_of : Settings → ℕ → ℕ
+abbrev pub slot_of : SettingsForm → ℕ → ℕ
 slot_of k launches = if k.transient == 0 then launches % k.reserved else k.reserved + launches % k.transient
 
 abbrev pub first_stage : ℕ → TaskId
 first_stage i = record { stage = 0; index = i }
 
 -- a task reads nothing, so it is launched and committed at once
-abbrev pub turn : Settings → ℕ → List Event
+abbrev pub turn : SettingsForm → ℕ → List Event
 turn k i = Launch i (first_stage i) (slot_of k i) [] ∷ Commit i ∷ []
 
 -- the log of all tasks
-abbrev pub solo_log : Settings → ℕ → List Event
+abbrev pub solo_log : SettingsForm → ℕ → List Event
 solo_log k n = flat_map (turn k) (below n) ++ Finish ∷ []
 
 -- the plan that a uniform DAG makes of a line, which is one stage

@@ -3,7 +3,7 @@ use Rattle.std.specs.Prelude.{◌≡◌, ◌<◌, ℕ, ◌==◌, Bool, false, Li
 use Rattle.std.specs.List.{filter_map, flat_map, list_any}
 use Rattle.nemo_base.specs.Places.{map_at}
 use Rattle.nemo_base.specs.declared.graph.TaskGraph.{TaskGraph}
-use Rattle.nemo_base.specs.declared.settings.Settings.{Settings}
+use Rattle.nemo_base.specs.Settings.{SettingsForm}
 use Rattle.nemo_value.specs.declared.record.SinkRows.{SinkRows}
 use Rattle.nemo_transform.specs.Gives.{Row}
 use Rattle.nemo_ir.specs.Along.{below}
@@ -31,12 +31,12 @@ abbrev pub IsHeldFrom : ℕ → State → ℕ → ℕ → Type 0
 IsHeldFrom a s v i = held_at s v i ≡ Some (record { slot = None; inc = 0; attempt = a })
 
 -- in this state, and after each further event
-abbrev pub StaysHeld : TaskGraph → Settings → ℕ → ℕ → ℕ → State → List Event → Type 0
+abbrev pub StaysHeld : TaskGraph → SettingsForm → ℕ → ℕ → ℕ → State → List Event → Type 0
 StaysHeld g k a v i s [] = IsHeldFrom a s v i
 StaysHeld g k a v i s (e ∷ es) = IsHeldFrom a s v i × StaysHeld g k a v i (after g k s e) es
 
 -- the attempt has one commit in the log; the block was gone before it, and is held from it ever since
-pub record IsFromCommit (g : TaskGraph) (k : Settings) (log : List Event) (v i a : ℕ) : Type 0 where
+pub record IsFromCommit (g : TaskGraph) (k : SettingsForm) (log : List Event) (v i a : ℕ) : Type 0 where
   pub before : List Event
   pub later : List Event
   pub is : log ≡ before ++ (Commit a ∷ later)
@@ -52,19 +52,19 @@ abbrev pub sink_at : PlanForm → IrVertex → Option (List ℕ)
 sink_at p u = sink_name (vertex_transform p.flat u)
 
 -- each block of each sink is from one commit
-abbrev pub FromCommits : PlanForm → Settings → List Event → Type 0
+abbrev pub FromCommits : PlanForm → SettingsForm → List Event → Type 0
 FromCommits p k log =
     (v : ℕ) (u : IrVertex) (name : List ℕ) (i : ℕ) → slice_get p.dag.vertices v ≡ Some u → sink_at p u ≡ Some name → i < u.parallelism
     → (a : ℕ) × IsFromCommit (graph p) k log v i a
 
 -- the rows of a block: what the attempt that holds it gave
-abbrev pub block_rows : PlanForm → Settings → List Event → ℕ → ℕ → List Row
+abbrev pub block_rows : PlanForm → SettingsForm → List Event → ℕ → ℕ → List Row
 block_rows p k log v i = (given_by (data_of p k log) (holder (held_at (state_of (graph p) k log) v i)) v).rows
 
 -- a sink with the rows of its blocks
-abbrev pub sink_written : PlanForm → Settings → List Event → ℕ → IrVertex → Option SinkRows
+abbrev pub sink_written : PlanForm → SettingsForm → List Event → ℕ → IrVertex → Option SinkRows
 sink_written p k log v u = option_map (λ name. record { name = name; rows = flat_map (block_rows p k log v) (below u.parallelism) }) (sink_at p u)
 
 -- the sinks by name, each with its rows in order
-abbrev pub written : PlanForm → Settings → List Event → List SinkRows
+abbrev pub written : PlanForm → SettingsForm → List Event → List SinkRows
 written p k log = in_order (filter_map (λ o. o) (map_at (sink_written p k log) 0 p.dag.vertices))
