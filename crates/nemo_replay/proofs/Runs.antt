@@ -2,7 +2,7 @@
 use Rattle.std.proofs.Common.{arith, ◌≡◌, ◌∙◌, ap, sym, subst, suc, ◌-◌, ◌≤◌, List, [], ◌∷◌, length, map, IfOk, OnOk, Some, None, Ok, Err, Result}
 use Rattle.std.specs.Prelude.{IsSome, is_some, option_and_then, option_map}
 use Rattle.std.specs.List.{flat_map}
-use Rattle.nemo_base.specs.declared.settings.Settings.{Settings}
+use Rattle.nemo_base.specs.Settings.{AreInRange, SettingsForm}
 use Rattle.nemo_value.specs.Order.{record_cmp}
 use Rattle.nemo_value.specs.Sorting.{sorted}
 use Rattle.nemo_value.specs.declared.memory.NoMemory.{NoMemory}
@@ -23,7 +23,7 @@ use Rattle.nemo_core.specs.declared.event.Event.{Event}
 use Rattle.nemo_core.specs.declared.event.Event.TheVariants.{Finish}
 use Rattle.nemo_plan.specs.Form.{PlanForm, graph}
 use Rattle.nemo_plan.specs.Line.{line_graph}
-use Rattle.nemo_laws.specs.Done.{IsDoneRun, IsRange}
+use Rattle.nemo_laws.specs.Done.{IsDoneRun}
 use Rattle.nemo_laws.specs.Solo.{IsOneStage, solo_log, task_rows, tasks_in}
 use Rattle.nemo_laws.specs.Written.{written}
 use Rattle.nemo_laws.proofs.Commits.{finish_allowed}
@@ -36,13 +36,13 @@ use Rattle.nemo_laws.proofs.Tasks.{ran}
 use Rattle.nemo_replay.specs.Ready.{end_name, one_sink, ready_core}
 use Rattle.nemo_replay.proofs.Turns.{core_is}
 
-pub start_core : (p : PlanForm) (k : Settings) (core : Machine) → IsOneStage p → core ≡ start_machine (graph p) k → core ≡ ready_core p k 0
+pub start_core : (p : PlanForm) (k : SettingsForm) (core : Machine) → IsOneStage p → core ≡ start_machine (graph p) k → core ≡ ready_core p k 0
 start_core p k core solo is =
     is ∙ ap (λ h. start_machine h k) (stage_plan p solo).graph_is
     ∙ ap (λ s. record { graph = line_graph (count p) (tasks_in p); settings = k; state = s; taken = 0 }) (start_ready (count p) (tasks_in p) k (stage_plan p solo).some)
     ∙ sym (core_is p k 0 solo)
 
-pub may_finish : (p : PlanForm) (k : Settings) (core : Machine) → IsOneStage p → core ≡ ready_core p k (tasks_in p) → refusal_in core Finish ≡ None
+pub may_finish : (p : PlanForm) (k : SettingsForm) (core : Machine) → IsOneStage p → core ≡ ready_core p k (tasks_in p) → refusal_in core Finish ≡ None
 may_finish p k core solo is = ap (λ c. refusal_in c Finish) (is ∙ core_is p k (tasks_in p) solo) ∙ finish_allowed (count p) (tasks_in p) k
 
 ---- the sink
@@ -74,11 +74,11 @@ sinks_are p rows sinks o all one =
 
 ---- the law of the run
 
-pub record RunsWell (p : PlanForm) (k : Settings) (log : List Event) : Type 0 where
+pub record RunsWell (p : PlanForm) (k : SettingsForm) (log : List Event) : Type 0 where
   pub done : IsDoneRun p k [] log
   pub sinks : written p k log ≡ flat_rows p.flat
 
-pub runs_well : (p : PlanForm) (k : Settings) (log : List Event) → IsOneStage p → IsRange k → flat_faults p.flat ≡ [] → log ≡ solo_log k (tasks_in p) → RunsWell p k log
+pub runs_well : (p : PlanForm) (k : SettingsForm) (log : List Event) → IsOneStage p → AreInRange k → flat_faults p.flat ≡ [] → log ≡ solo_log k (tasks_in p) → RunsWell p k log
 runs_well p k log o range clean is = let law = solo_runs p k o range clean in subst (RunsWell p k) (sym is) (record { done = law.0; sinks = law.1 })
 
 -- the same of the result of a call
@@ -87,7 +87,7 @@ pub ended_sinks : (p : PlanForm) (rows : List Row) (r : Result (List SinkRows) N
 ended_sinks p rows (Ok sinks) o all one = sinks_are p rows sinks o all one
 ended_sinks p rows (Err e) o all one = tt
 
-pub ended_written : (p : PlanForm) (k : Settings) (log : List Event) (r : Result (List SinkRows) NoMemory) → RunsWell p k log
+pub ended_written : (p : PlanForm) (k : SettingsForm) (log : List Event) (r : Result (List SinkRows) NoMemory) → RunsWell p k log
     → IfOk r (λ sinks. sinks ≡ flat_rows p.flat) → IfOk r (λ sinks. sinks ≡ written p k log)
 ended_written p k log (Ok sinks) well is = is ∙ sym well.sinks
 ended_written p k log (Err e) well is = tt

@@ -5,7 +5,7 @@ use Rattle.std.proofs.lemmas.List.Sums.{AllPass-from_list_all}
 use Rattle.std.specs.List.{AllPass, flat_map}
 use Rattle.std.specs.Prelude.{Option, IsSome, is_some}
 use Rattle.nemo_base.specs.declared.id.TaskId.{TaskId}
-use Rattle.nemo_base.specs.declared.settings.Settings.{Settings}
+use Rattle.nemo_base.specs.Settings.{AreInRange, SettingsForm}
 use Rattle.nemo_transform.specs.Soundness.{is_sound}
 use Rattle.nemo_ir.specs.Along.{below}
 use Rattle.nemo_ir.specs.Along.{passes}
@@ -18,7 +18,6 @@ use Rattle.nemo_core.specs.declared.event.Event.{Event}
 use Rattle.nemo_core.specs.declared.event.Event.TheVariants.{Launch, Commit}
 use Rattle.nemo_plan.specs.Form.{PlanForm}
 use Rattle.nemo_plan.specs.Line.{line_graph}
-use Rattle.nemo_laws.specs.Done.{IsRange}
 use Rattle.nemo_laws.specs.Ready.{busy, ready}
 use Rattle.nemo_laws.specs.Solo.{IsOneStage, first_stage, slot_of, tasks_in, turn}
 use Rattle.nemo_laws.proofs.Commits.{commit_after, commit_allowed}
@@ -30,14 +29,14 @@ use Rattle.nemo_laws.proofs.OneStage.{count, stage_plan}
 use Rattle.nemo_replay.specs.Ready.{is_served, ready_core}
 
 -- the core while task i runs
-abbrev busy_core : PlanForm → Settings → ℕ → Machine
+abbrev busy_core : PlanForm → SettingsForm → ℕ → Machine
 busy_core p k i = record { graph = line_graph (count p) (tasks_in p); settings = k; state = busy (count p) (tasks_in p) k i (slot_of k i); taken = i + i + 1 }
 
-pub core_is : (p : PlanForm) (k : Settings) (i : ℕ) → IsOneStage p → ready_core p k i ≡ machine_of (count p) (tasks_in p) k i (i + i)
+pub core_is : (p : PlanForm) (k : SettingsForm) (i : ℕ) → IsOneStage p → ready_core p k i ≡ machine_of (count p) (tasks_in p) k i (i + i)
 core_is p k i solo = ap (λ g. record { graph = g; settings = k; state = ready (count p) (tasks_in p) k i; taken = i + i }) (stage_plan p solo).graph_is
 
 -- the next task may be launched
-pub next_launchable : (p : PlanForm) (k : Settings) (i : ℕ) (core : Machine) (slot : ℕ) → IsOneStage p → IsRange k → i < tasks_in p → core ≡ ready_core p k i → slot ≡ slot_of k i
+pub next_launchable : (p : PlanForm) (k : SettingsForm) (i : ℕ) (core : Machine) (slot : ℕ) → IsOneStage p → AreInRange k → i < tasks_in p → core ≡ ready_core p k i → slot ≡ slot_of k i
     → launchable core slot ≡ Some (first_stage i)
 next_launchable p k i core slot solo range lt is on =
     ap (λ s. launchable core s) on ∙ ap (λ c. launchable c (slot_of k i)) (is ∙ core_is p k i solo)
@@ -46,19 +45,19 @@ next_launchable p k i core slot solo range lt is on =
 pub is_some_task : (o : Option TaskId) (t : TaskId) → o ≡ Some t → IsSome o
 is_some_task o t e = ap is_some e
 
-pub launched_task : (p : PlanForm) (k : Settings) (i : ℕ) (core : Machine) (slot : ℕ) (task : TaskId) → IsOneStage p → IsRange k → i < tasks_in p → core ≡ ready_core p k i → slot ≡ slot_of k i
+pub launched_task : (p : PlanForm) (k : SettingsForm) (i : ℕ) (core : Machine) (slot : ℕ) (task : TaskId) → IsOneStage p → AreInRange k → i < tasks_in p → core ≡ ready_core p k i → slot ≡ slot_of k i
     → launchable core slot ≡ Some task → task ≡ first_stage i
 launched_task p k i core slot task solo range lt is on got =
     same_item task (first_stage i) (sym got ∙ next_launchable p k i core slot solo range lt is on)
 
 -- its launch
-launch_is : (p : PlanForm) (k : Settings) (i : ℕ) (core : Machine) (slot : ℕ) (task : TaskId) → IsOneStage p → core ≡ ready_core p k i → slot ≡ slot_of k i → task ≡ first_stage i
+launch_is : (p : PlanForm) (k : SettingsForm) (i : ℕ) (core : Machine) (slot : ℕ) (task : TaskId) → IsOneStage p → core ≡ ready_core p k i → slot ≡ slot_of k i → task ≡ first_stage i
     → launch_of core task slot ≡ Launch i (first_stage i) (slot_of k i) []
 launch_is p k i core slot task solo is on at =
     ap (λ t. launch_of core t slot) at ∙ ap (λ s. launch_of core (first_stage i) s) on
     ∙ ap (λ c. launch_of c (first_stage i) (slot_of k i)) (is ∙ core_is p k i solo)
 
-launched_core : (p : PlanForm) (k : Settings) (i : ℕ) (core then : Machine) (slot : ℕ) (task : TaskId) → IsOneStage p → core ≡ ready_core p k i → slot ≡ slot_of k i → task ≡ first_stage i
+launched_core : (p : PlanForm) (k : SettingsForm) (i : ℕ) (core then : Machine) (slot : ℕ) (task : TaskId) → IsOneStage p → core ≡ ready_core p k i → slot ≡ slot_of k i → task ≡ first_stage i
     → then ≡ stepped core (launch_of core task slot) → then ≡ busy_core p k i
 launched_core p k i core then slot task solo is on at took =
     took
@@ -67,11 +66,11 @@ launched_core p k i core then slot task solo is on at took =
     ∙ ap (λ s. record { graph = line_graph (count p) (tasks_in p); settings = k; state = s; taken = i + i + 1 }) (launch_after (count p) (tasks_in p) k i (slot_of k i))
 
 -- the commit of a task that runs
-may_commit : (p : PlanForm) (k : Settings) (i : ℕ) (core : Machine) (a : ℕ) → i < tasks_in p → core ≡ busy_core p k i → a ≡ i → refusal_in core (Commit a) ≡ None
+may_commit : (p : PlanForm) (k : SettingsForm) (i : ℕ) (core : Machine) (a : ℕ) → i < tasks_in p → core ≡ busy_core p k i → a ≡ i → refusal_in core (Commit a) ≡ None
 may_commit p k i core a lt is named =
     ap (λ c. refusal_in c (Commit a)) is ∙ ap (λ n. refusal_in (busy_core p k i) (Commit n)) named ∙ commit_allowed (count p) (tasks_in p) k i (slot_of k i) lt
 
-committed_core : (p : PlanForm) (k : Settings) (i : ℕ) (core then : Machine) (a : ℕ) → IsOneStage p → i < tasks_in p → core ≡ busy_core p k i → a ≡ i → then ≡ stepped core (Commit a) → then ≡ ready_core p k (i + 1)
+committed_core : (p : PlanForm) (k : SettingsForm) (i : ℕ) (core then : Machine) (a : ℕ) → IsOneStage p → i < tasks_in p → core ≡ busy_core p k i → a ≡ i → then ≡ stepped core (Commit a) → then ≡ ready_core p k (i + 1)
 committed_core p k i core then a solo lt is named took =
     let m = count p in
     let n = tasks_in p in
@@ -86,12 +85,12 @@ committed_core p k i core then a solo lt is named took =
 ---- a turn, from the clauses of the calls
 
 -- what the launch of a turn has done
-pub record IsLaunched (p : PlanForm) (k : Settings) (i : ℕ) (core : Machine) (log before : List Event) (task : TaskId) : Type 0 where
+pub record IsLaunched (p : PlanForm) (k : SettingsForm) (i : ℕ) (core : Machine) (log before : List Event) (task : TaskId) : Type 0 where
   pub at : task ≡ first_stage i
   pub is : core ≡ busy_core p k i
   pub logged : log ≡ before ++ Launch i (first_stage i) (slot_of k i) [] ∷ []
 
-pub turn_launched : (p : PlanForm) (k : Settings) (i : ℕ) (core then : Machine) (log before : List Event) (slot : ℕ) (task : TaskId) → IsOneStage p → IsRange k → i < tasks_in p → core ≡ ready_core p k i → slot ≡ slot_of k i
+pub turn_launched : (p : PlanForm) (k : SettingsForm) (i : ℕ) (core then : Machine) (log before : List Event) (slot : ℕ) (task : TaskId) → IsOneStage p → AreInRange k → i < tasks_in p → core ≡ ready_core p k i → slot ≡ slot_of k i
     → launchable core slot ≡ Some task → then ≡ stepped core (launch_of core task slot) → log ≡ before ++ launch_of core task slot ∷ [] → IsLaunched p k i then log before task
 turn_launched p k i core then log before slot task solo range lt is on got took logged =
     let at = launched_task p k i core slot task solo range lt is on got in
@@ -101,14 +100,14 @@ turn_launched p k i core then log before slot task solo range lt is on got took 
       logged = logged ∙ ap (λ e. before ++ e ∷ []) (launch_is p k i core slot task solo is on at);
     }
 
-pub turn_allowed : (p : PlanForm) (k : Settings) (i : ℕ) (core : Machine) (log before : List Event) (task : TaskId) (a : ℕ) → i < tasks_in p → IsLaunched p k i core log before task → a ≡ i → refusal_in core (Commit a) ≡ None
+pub turn_allowed : (p : PlanForm) (k : SettingsForm) (i : ℕ) (core : Machine) (log before : List Event) (task : TaskId) (a : ℕ) → i < tasks_in p → IsLaunched p k i core log before task → a ≡ i → refusal_in core (Commit a) ≡ None
 turn_allowed p k i core log before task a lt l named = may_commit p k i core a lt l.is named
 
-pub turn_core : (p : PlanForm) (k : Settings) (i : ℕ) (core then : Machine) (log before : List Event) (task : TaskId) (a : ℕ) → IsOneStage p → i < tasks_in p → IsLaunched p k i core log before task → a ≡ i
+pub turn_core : (p : PlanForm) (k : SettingsForm) (i : ℕ) (core then : Machine) (log before : List Event) (task : TaskId) (a : ℕ) → IsOneStage p → i < tasks_in p → IsLaunched p k i core log before task → a ≡ i
     → then ≡ stepped core (Commit a) → then ≡ ready_core p k (i + 1)
 turn_core p k i core then log before task a solo lt l named took = committed_core p k i core then a solo lt l.is named took
 
-pub turn_log : (p : PlanForm) (k : Settings) (i : ℕ) (core : Machine) (log before later : List Event) (task : TaskId) (a : ℕ) → IsLaunched p k i core log before task → a ≡ i → later ≡ log ++ Commit a ∷ [] → later ≡ before ++ turn k i
+pub turn_log : (p : PlanForm) (k : SettingsForm) (i : ℕ) (core : Machine) (log before later : List Event) (task : TaskId) (a : ℕ) → IsLaunched p k i core log before task → a ≡ i → later ≡ log ++ Commit a ∷ [] → later ≡ before ++ turn k i
 turn_log p k i core log before later task a l named logged =
     logged ∙ ap (λ es. es ++ Commit a ∷ []) l.logged ∙ append_assoc before (Launch i (first_stage i) (slot_of k i) [] ∷ []) (Commit a ∷ [])
     ∙ ap (λ b. before ++ (Launch i (first_stage i) (slot_of k i) [] ∷ Commit b ∷ [])) named
@@ -121,7 +120,7 @@ all_served p solo =
 
 ---- turn after turn
 
-pub log_more : (k : Settings) (i : ℕ) (log later : List Event) → log ≡ turns k i → later ≡ log ++ turn k i → later ≡ turns k (i + 1)
+pub log_more : (k : SettingsForm) (i : ℕ) (log later : List Event) → log ≡ turns k i → later ≡ log ++ turn k i → later ≡ turns k (i + 1)
 log_more k i log later is more = more ∙ ap (λ es. es ++ turn k i) is ∙ sym (turns_more k i) ∙ ap (turns k) (sym (add-one i))
 
 pub rows_more : {X : Type 0} (f : ℕ → List X) (i : ℕ) (rows part : List X) → rows ≡ flat_map f (below i) → part ≡ f i → rows ++ part ≡ flat_map f (below (i + 1))

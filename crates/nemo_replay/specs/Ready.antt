@@ -1,6 +1,6 @@
 -- A core that has run the first tasks of a plan of one stage, and what its sink gets.
 use Rattle.std.specs.Prelude.{ℕ, ◌+◌, ◌-◌, Bool, List, [], ◌∷◌, length, slice_get, option_and_then, option_map, Option}
-use Rattle.nemo_base.specs.declared.settings.Settings.{Settings}
+use Rattle.nemo_base.specs.Settings.{SettingsForm}
 use Rattle.nemo_value.specs.Order.{record_cmp}
 use Rattle.nemo_value.specs.Sorting.{sorted}
 use Rattle.nemo_value.specs.declared.record.SinkRows.{SinkRows}
@@ -15,7 +15,7 @@ use Rattle.nemo_laws.specs.Ready.{ready}
 use Rattle.nemo_laws.specs.Solo.{tasks_in}
 
 -- the core after the commits of the tasks 0 to i - 1; each took two events
-abbrev pub ready_core : PlanForm → Settings → ℕ → Machine
+abbrev pub ready_core : PlanForm → SettingsForm → ℕ → Machine
 ready_core p k i = record { graph = graph p; settings = k; state = ready (length p.dag.vertices) (tasks_in p) k i; taken = i + i }
 
 -- the vertex has a transform, which is sound

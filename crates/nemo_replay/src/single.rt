@@ -6,7 +6,7 @@ ghost use Rattle.nemo_ir.specs.Meaning.{flat_faults, flat_rows};
 ghost use Rattle.nemo_ir.specs.Along.{below};
 ghost use Rattle.nemo_ir.specs.Line.{IsLine};
 ghost use Rattle.nemo_ir.specs.Uniform.{first_tasks, is_uniform};
-ghost use Rattle.nemo_laws.specs.Done.{IsDoneRun, IsRange};
+ghost use Rattle.nemo_laws.specs.Done.{IsDoneRun};
 ghost use Rattle.nemo_laws.specs.Solo.{IsOneStage, solo_log, task_rows, tasks_in, turn};
 ghost use Rattle.nemo_laws.specs.Written.{written};
 ghost use Rattle.nemo_plan.specs.Form.{graph};
@@ -15,7 +15,7 @@ ghost use Rattle.nemo_value.specs.Order.{record_cmp};
 ghost use Rattle.nemo_value.specs.Sorting.{sorted};
 
 use crate::compute::run_task;
-use crate::turn::{Run, launch, slot_of, take};
+use crate::turn::{Run, keeps, launch, slot_of, take};
 use nemo_base::{ScriptLine, Settings};
 use nemo_core::{Core, Event, Outcome};
 use nemo_ir::{FlatJob, IrDag};
@@ -45,7 +45,6 @@ pub fn solo(
     requires line { IsLine plan.now.flat }
     requires uniform { is_uniform plan.now.dag ≡ true }
     requires faultless { flat_faults plan.now.flat ≡ [] }
-    requires range { IsRange settings }
     requires script { script ≡ [] }
     ensures run { IfOk result (λ end. IsDoneRun plan.now settings [] end.log) }
     ensures outcome { IfOk result (λ end. end.outcome ≡ Outcome.Done) }
@@ -86,7 +85,6 @@ fn run_on(
     requires line { IsLine plan.now.flat }
     requires uniform { is_uniform plan.now.dag ≡ true }
     requires faultless { flat_faults plan.now.flat ≡ [] }
-    requires range { IsRange settings }
     requires start { run.old.core ≡ start_machine (graph plan.now) settings }
     requires empty { run.old.log.items ≡ [] }
     ensures run { OnOk result (IsDoneRun plan.now settings [] run.new.log.items) }
@@ -95,6 +93,7 @@ fn run_on(
     ensures committed { IfOk result (λ sinks. sinks ≡ written plan.now settings run.new.log.items) }
     ensures sinks { IfOk result (λ sinks. sinks ≡ flat_rows plan.now.flat) }
 {
+    keeps(settings);
     let flat = plan.flat();
     let tasks = task_count(plan.dag());
     let rows = run_all(alloc, plan, tasks, settings, run)?;
@@ -146,7 +145,6 @@ fn run_all(
 ) -> Result<Vec<Record>, NoMemory>
     requires plan { IsOneStage plan.now }
     requires tasks { tasks ≡ tasks_in plan.now }
-    requires range { IsRange settings }
     requires start { run.old.core ≡ ready_core plan.now settings 0 }
     requires empty { run.old.log.items ≡ [] }
     ensures core { OnOk result (run.new.core ≡ ready_core plan.now settings (tasks_in plan.now)) }
@@ -172,14 +170,14 @@ fn take_turn(
 ) -> Result<Vec<Record>, NoMemory>
     requires plan { IsOneStage plan.now }
     requires tasks { tasks ≡ tasks_in plan.now }
-    requires range { IsRange settings }
     requires within { task < tasks_in plan.now }
     requires ready { run.old.core ≡ ready_core plan.now settings task }
     ensures core { OnOk result (run.new.core ≡ ready_core plan.now settings (task + 1)) }
     ensures log { OnOk result (run.new.log.items ≡ run.old.log.items ++ turn settings task) }
     ensures rows { IfOk result (λ rows. rows.items ≡ task_rows plan.now.flat (tasks_in plan.now) task plan.now.flat.vertices []) }
 {
-    let launched = launch(alloc, run, slot_of(settings, task))?;
+    keeps(settings);
+    let launched = launch(run, slot_of(settings, task))?;
     let rows = run_task(alloc, plan.flat(), launched.index, tasks)?;
     let attempt = u64::from(task);
     take(run, Event::Commit { attempt })?;

@@ -1,19 +1,17 @@
 ghost use Rattle.std.specs.Prelude.{◌≡◌, ◌<◌, ◌^◌, ◌++◌, ◌∷◌, [], true, Some, None, IsSome, IfOk, OnOk};
+ghost use Rattle.nemo_base.specs.Settings.{AreInRange};
 ghost use Rattle.nemo_core.specs.Reading.{launch_of, launchable};
 ghost use Rattle.nemo_core.specs.Run.{refusal_in, stepped};
 ghost use Rattle.nemo_core.specs.Step.{is_built};
-ghost use Rattle.nemo_laws.specs.Done.{IsRange};
 ghost use Rattle.nemo_laws.specs.Solo as spec;
 
 use nemo_base::{Settings, TaskId};
 use nemo_core::{Core, Event, LaunchRefused};
 use nemo_value::NoMemory;
-use std::alloc::Global;
 
 /// The slot of a launch: of the slots that transient tasks fit on, which are the reserved ones where none is transient,
 /// the one at the place of the launches so far, modulo their number.
 pub(crate) fn slot_of(settings: Settings, launches: u32) -> u32
-    requires { IsRange settings }
     ensures { result ≡ spec.slot_of settings launches }
 {
     if settings.transient == 0 {
@@ -21,6 +19,13 @@ pub(crate) fn slot_of(settings: Settings, launches: u32) -> u32
     } else {
         settings.reserved + launches % settings.transient
     }
+}
+
+/// What the type of settings says of them.
+pub(crate) fn keeps(settings: Settings)
+    ensures { AreInRange settings }
+{
+    let _reserved = settings.reserved;
 }
 
 /// A run so far: the state that it is in, and its history.
@@ -31,7 +36,7 @@ pub(crate) struct Run {
 }
 
 /// Launches the least task that may be launched on the slot.
-pub(crate) fn launch(alloc: Global, run: &mut Run, slot: u32) -> Result<TaskId, NoMemory>
+pub(crate) fn launch(run: &mut Run, slot: u32) -> Result<TaskId, NoMemory>
     requires some { IsSome (launchable run.old.core slot) }
     requires room { run.old.core.taken < 2 ^ 63 }
     ensures task { IfOk result (λ task. launchable run.old.core slot ≡ Some task) }
@@ -41,7 +46,7 @@ pub(crate) fn launch(alloc: Global, run: &mut Run, slot: u32) -> Result<TaskId, 
     let Some(task) = run.core.launchable(slot) else {
         unreachable!();
     };
-    match run.core.launch_event(alloc, task, slot) {
+    match run.core.launch_event(task, slot) {
         Ok(event) => take(run, event)?,
         Err(LaunchRefused::NoMemory) => return Err(NoMemory),
         Err(LaunchRefused::Refused(_)) => unreachable!(),

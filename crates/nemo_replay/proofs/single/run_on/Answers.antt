@@ -32,7 +32,7 @@ end_sink-requires c =
 pub returns-clause-run : goal.returns-clause-run
 returns-clause-run c =
     let o : IsOneStage c.args.plan.now = record { flat = c.flat-flat.ensures.keeps; line = c.requires.line; valid = c.dag.ensures.valid; uniform = c.requires.uniform } in
-    on_ok c.end_sink.result (runs_well c.args.plan.now c.args.settings c.take.new.run.log.items o c.requires.range c.requires.faultless (c.in_ok-take.ensures.log ∙ c.in_ok-rows.ensures.log)).done
+    on_ok c.end_sink.result (runs_well c.args.plan.now c.args.settings c.take.new.run.log.items o c.keeps.ensures c.requires.faultless (c.in_ok-take.ensures.log ∙ c.in_ok-rows.ensures.log)).done
 
 pub returns-clause-sinks : goal.returns-clause-sinks
 returns-clause-sinks c =
@@ -44,5 +44,5 @@ pub returns-clause-committed : goal.returns-clause-committed
 returns-clause-committed c =
     let o : IsOneStage c.args.plan.now = record { flat = c.flat-flat.ensures.keeps; line = c.requires.line; valid = c.dag.ensures.valid; uniform = c.requires.uniform } in
     ended_written c.args.plan.now c.args.settings c.take.new.run.log.items c.end_sink.result
-    (runs_well c.args.plan.now c.args.settings c.take.new.run.log.items o c.requires.range c.requires.faultless (c.in_ok-take.ensures.log ∙ c.in_ok-rows.ensures.log))
+    (runs_well c.args.plan.now c.args.settings c.take.new.run.log.items o c.keeps.ensures c.requires.faultless (c.in_ok-take.ensures.log ∙ c.in_ok-rows.ensures.log))
     (returns-clause-sinks c)
