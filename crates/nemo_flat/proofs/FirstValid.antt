@@ -13,7 +13,8 @@ use Rattle.nemo_transform.specs.declared.shape.PortKind.TheVariants.{Main, Keyed
 use Rattle.nemo_ir.specs.Along.{all_at, below, counted, passes}
 use Rattle.nemo_ir.specs.Flat.{FlatForm, IsFlat, is_input}
 use Rattle.nemo_ir.specs.Nodes.{deed_or, edge_at, feed_of, feeds_from, kinds_in, node_of, nodes, rep_of, resolve}
-use Rattle.nemo_ir.specs.Valid.{HasRep, Meets, StandsFor, V4, is_fed, is_rep, is_taken, is_used, kinds_at, names_each, ports_named, rises, takes}
+use Rattle.nemo_ir.specs.Valid.{HasRep, Meets, StandsFor, is_fed, is_rep, is_taken, is_used, kinds_at, names_each, ports_named, rises, takes}
+use Rattle.nemo_ir.specs.declared.clause.Clause.TheVariants.{V4}
 use Rattle.nemo_ir.specs.declared.dag.IrDag.{IrDag}
 use Rattle.nemo_ir.specs.declared.dag.IrEdge.{IrEdge}
 use Rattle.nemo_ir.specs.declared.dag.IrVertex.{IrVertex}
