@@ -9,7 +9,9 @@ use Rattle.std.specs.List.{list_all, list_any}
 use Rattle.nemo_base.specs.Places.{map_at}
 use Rattle.nemo_base.specs.declared.annotation.Class.TheVariants.{Transient}
 use Rattle.nemo_base.specs.declared.annotation.Pattern.{Pattern}
-use Rattle.nemo_transform.specs.Ports.{PortKind, Main, Keyed, Side, is_keyed, is_main, kinds_of}
+use Rattle.nemo_transform.specs.Ports.{is_keyed, is_main, kinds_of}
+use Rattle.nemo_transform.specs.declared.shape.PortKind.{PortKind}
+use Rattle.nemo_transform.specs.declared.shape.PortKind.TheVariants.{Main, Keyed, Side}
 use Rattle.nemo_transform.specs.declared.transform.Transform.{Transform}
 use Rattle.nemo_transform.specs.declared.transform.Transform.TheVariants.{Source, Map, Filter, Emit, Words, Union, Reduce, Distinct, Join, SideJoin, Sink}
 use Rattle.nemo_ir.specs.Along.{along, passes}

@@ -2,7 +2,8 @@
 use Rattle.std.proofs.Common.{◌≡◌, ◌∙◌, ap, sym, subst, refl, ℕ, zero, suc, ◌≤◌, ◌==◌, ◌||◌, List, [], ◌∷◌, map, slice_get, not, Bool, true, false, Some}
 use Rattle.std.proofs.lemmas.List.{length-map}
 use Rattle.nemo_base.specs.declared.annotation.Pattern.{Pattern}
-use Rattle.nemo_transform.specs.Ports.{PortKind, Main, Keyed, Side}
+use Rattle.nemo_transform.specs.declared.shape.PortKind.{PortKind}
+use Rattle.nemo_transform.specs.declared.shape.PortKind.TheVariants.{Main, Keyed, Side}
 use Rattle.nemo_ir.specs.Along.{along}
 use Rattle.nemo_ir.specs.Flat.{FlatForm, IsFlat}
 use Rattle.nemo_ir.specs.Valid.{Valid, is_one_to_one, takes}

@@ -3,7 +3,9 @@ use Rattle.std.specs.Prelude.{ℕ, ◌==◌, Bool, List, [], length, map, max, m
 use Rattle.std.specs.List.{list_any}
 use Rattle.nemo_base.specs.declared.annotation.Pattern.{Pattern}
 use Rattle.nemo_base.specs.declared.annotation.Pattern.TheVariants.{OneToOne, Broadcast, Hash, Spread}
-use Rattle.nemo_transform.specs.Ports.{PortKind, Main, Keyed, Side, is_keyed, kinds_of}
+use Rattle.nemo_transform.specs.Ports.{is_keyed, kinds_of}
+use Rattle.nemo_transform.specs.declared.shape.PortKind.{PortKind}
+use Rattle.nemo_transform.specs.declared.shape.PortKind.TheVariants.{Main, Keyed, Side}
 use Rattle.nemo_transform.specs.declared.transform.Transform.{Transform}
 use Rattle.nemo_transform.specs.declared.transform.Transform.TheVariants.{Source}
 use Rattle.nemo_ir.specs.Along.{along}
