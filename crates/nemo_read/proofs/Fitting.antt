@@ -12,7 +12,7 @@ use Rattle.nemo_transform.specs.declared.transform.Folding.{Folding}
 use Rattle.nemo_transform.specs.declared.transform.Folding.TheVariants.{Sum, Min, Max, Count}
 use Rattle.nemo_transform.specs.declared.transform.Output.{Output}
 use Rattle.nemo_transform.specs.declared.transform.Transform.{Transform}
-use Rattle.nemo_transform.specs.declared.transform.Transform.TheVariants.{Source, Map, Filter, Emit, Words, Reduce, Sink}
+use Rattle.nemo_transform.specs.declared.transform.Transform.TheVariants.{Source, Map, Filter, Emit, Words, Reduce}
 use Rattle.nemo_job.specs.Chain.{rows_filled}
 use Rattle.nemo_job.specs.Fitting.{fits}
 use Rattle.nemo_job.specs.declared.vertex.Ref.{Ref}

@@ -71,20 +71,26 @@ pub(crate) fn union_of(ports: usize) -> Result<Transform, PartEnd>
 }
 
 /// A reduce by the folding of `fn`, at the field of `field` unless it counts.
-#[tactic(auto, using(crate::proofs::FoldingWords::folding_found))]
 pub(crate) fn read_reduce(alloc: Global, value: &Value) -> Result<Transform, PartEnd>
     ensures { Reads result (spec.reduce_of (view value.now)) }
 {
     let by = value
         .get("fn")
         .and_then(Value::as_str)
-        .and_then(Folding::from_word)
+        .and_then(folding_of)
         .ok_or(PartEnd::Malformed)?;
     let field = match by {
         Folding::Count => 0,
         Folding::Sum | Folding::Min | Folding::Max => read_field(alloc, value)?,
     };
     Ok(Transform::Reduce { by, field })
+}
+
+/// The way to fold of a word.
+fn folding_of(word: &str) -> Option<Folding>
+    ensures { result ≡ spec.folding_of word.now }
+{
+    Folding::from_word(word)
 }
 
 /// The 1 to 16 things of a member.
