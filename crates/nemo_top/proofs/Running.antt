@@ -1,15 +1,14 @@
 -- The run of a bundle.
-use Rattle.std.proofs.Common.{◌≡◌, ◌∙◌, ap, sym, subst, List, [], ◌++◌, true, Result, Ok, Err, IfOk}
-use Rattle.nemo_base.specs.declared.script.ScriptLine.{ScriptLine}
+use Rattle.std.proofs.Common.{◌≡◌, ◌∙◌, ap, sym, subst, List, [], true, IfSome, Result, Ok, Err, IfOk}
 use Rattle.nemo_bundle.specs.Choices.{AreInRange}
 use Rattle.nemo_bundle.specs.declared.bundle.Bundle.{Bundle}
 use Rattle.nemo_base.specs.declared.settings.Settings.{Settings}
 use Rattle.nemo_core.specs.declared.event.Event.{Event}
 use Rattle.nemo_flat.proofs.ChainValue.{keeps_faults, keeps_none, keeps_rows}
-use Rattle.nemo_flat.specs.Flat.{IsChainForm, flat_of}
+use Rattle.nemo_flat.specs.Flat.{IsChainForm}
 use Rattle.nemo_flat.specs.Meaning.{flat_rows}
+use Rattle.nemo_ir.specs.Uniform.{is_uniform}
 use Rattle.nemo_ir.specs.Valid.{Valid}
-use Rattle.nemo_ir.specs.Flat.{FlatForm}
 use Rattle.nemo_ir.specs.declared.dag.IrDag.{IrDag}
 use Rattle.nemo_job.specs.Sinks.{job_rows}
 use Rattle.nemo_laws.specs.Done.{IsDoneRun, IsRange}
@@ -61,3 +60,9 @@ module _ {E : Type 0} (b : Bundle) (dag : IrDag) (p : PlanForm) (runs : IsRunnab
   pub ran_rows : (r : Result RunEnd E) → IfOk r (λ end. end.sinks ≡ flat_rows p.flat) → IfOk r (λ end. end.sinks ≡ job_rows b.job)
   ran_rows (Ok end) rows = subst (λ p. end.sinks ≡ flat_rows p.flat) is rows ∙ same_rows b runs
   ran_rows (Err e) rows = tt
+
+---- on the way
+
+-- its DAG is uniform
+pub uniform_dag : (b : Bundle) (dag : IrDag) → IsRunnable b → (HasMainPorts b.flat → IfSome b.dag (λ dag. is_uniform dag ≡ true) → is_uniform dag ≡ true) → is_uniform dag ≡ true
+uniform_dag b dag runs h = h (main_ports b runs) runs.uniform
