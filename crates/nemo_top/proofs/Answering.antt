@@ -1,5 +1,5 @@
 -- From what bytes lead to to what a call answers.
-use Rattle.std.proofs.Common.{◌≡◌, refl, sym, subst, ◌⊎◌, inl, inr, ℕ, ◌<◌, ◌≤◌, List, [], length, true, false, Result, Ok, Err, Option, Some, None, arith}
+use Rattle.std.proofs.Common.{◌≡◌, refl, sym, subst, inl, inr, ℕ, ◌<◌, ◌≤◌, List, [], length, false, Result, Ok, Err, Some, arith}
 use Rattle.std.proofs.Math.Nat.{lt_of_not-le}
 use Rattle.std.proofs.lemmas.Bool.{true≢false}
 use Rattle.std.specs.Io.KnownBytes.{Consumes}
@@ -78,3 +78,9 @@ stands_alone call status new h (inr spent) = subst (λ s. Answers call s [] (sta
 pub stands_answers : (call : Call) (status new : Status) (log : List Event) (text : List ℕ) → Answers call status [] (status_text status) → StandsFor new status → Alone new log text → Answers call new log text
 stands_answers call status new log text h stands alone =
     subst (λ es. Answers call new es text) (sym alone.without) (subst (Answers call new []) (sym alone.line) (stands_alone call status new h stands))
+
+---- what is written
+
+-- before that there is no WriteFault
+pub no_write_fault : (call : Call) (status : Status) (log : List Event) (text : List ℕ) → Answers call status log text → status ≡ WriteFault → ⊥
+no_write_fault call status log text h fault = subst (λ s. Answers call s log text) fault h
