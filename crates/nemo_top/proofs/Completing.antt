@@ -1,10 +1,10 @@
 -- From what a call answers to what it must answer.
-use Rattle.std.proofs.Common.{◌≡◌, ◌∙◌, ap, refl, sym, subst, inl, inr, ℕ, ◌≤◌, List, [], ◌∷◌, ◌++◌, length, Ok, Err, Option, Some, None, IfSome, slice_get, append-nil, length-append, arith}
+use Rattle.std.proofs.Common.{◌≡◌, ◌∙◌, ap, refl, sym, subst, inl, inr, ℕ, ◌≤◌, List, [], ◌∷◌, ◌++◌, length, Result, Ok, Err, Option, Some, None, IfSome, slice_get, append-nil, length-append, arith, ◌≢◌, OnOk, OnErr}
 use Rattle.std.specs.Io.KnownBytes.{Consumes, IsAtEnd}
 use Rattle.serde_json.specs.Data.{Data}
 use Rattle.nemo_bundle.specs.declared.bundle.Bundle.{Bundle}
 use Rattle.nemo_core.specs.declared.event.Event.{Event}
-use Rattle.nemo_io.specs.Faults.{Rose}
+use Rattle.nemo_io.specs.Faults.{HasCause, Rose}
 use Rattle.nemo_ir.specs.Flat.{FlatForm}
 use Rattle.nemo_ir.specs.Valid.{Clause, V1, V2, V3, V4, V5, V6, V7, V8, V9, Valid, Holds, FirstAmong, clauses}
 use Rattle.nemo_ir.specs.declared.dag.IrDag.{IrDag}
@@ -132,3 +132,9 @@ completes call command b (BundleRefused code place) log text brings well h =
 completes call command b (DagRefused clause index) log text brings well h = of_reads call command b brings (DagRefused clause index) log text (λ log text ends. absurd (proposes_right b clause index brings.valid ends.1)) h
 completes call command b (TransformFault name kind rec) log text brings well h = of_reads call command b brings (TransformFault name kind rec) log text (λ log text ends. faulty command b log text (record { vertex = name; kind = kind; rec = rec }) ends) h
 completes call command b NoMemory log text brings well h = spent command b
+
+-- and still is, once no write fails
+pub written_completes : {T E : Type 0} (call : Call) (command : Command) (b : Bundle) (reached status : Status) (log : List Event) (text : List ℕ) (before after : ℕ) (r : Result T E) → Answers call reached log text → OnOk r (status ≡ reached)
+    → HasCause before after r → Brings call.words call.before command b → ¬ Rose call.faults_before call.faults_after → ¬ Rose before after → Completes command b status
+written_completes call command b reached status log text before after (Ok t) h kept cause brings read written = subst (Completes command b) (sym kept) (completes call command b reached log text brings read h)
+written_completes call command b reached status log text before after (Err e) h kept cause brings read written = absurd (written cause)
