@@ -32,8 +32,6 @@ use Rattle.nemo_job.proofs.ChainMean.{chain_rows, chain_sound}
 use Rattle.nemo_transform.specs.ArisenOrder.{place_cmp}
 use Rattle.nemo_job.specs.Sinks.{job_faults, job_rows}
 use Rattle.nemo_value.specs.SinkOrder.{in_order}
-use Rattle.nemo_value.specs.Order.{record_cmp}
-use Rattle.nemo_value.specs.Sorting.{sorted}
 use Rattle.std.proofs.lemmas.List.{length-map}
 
 -- rows without faults

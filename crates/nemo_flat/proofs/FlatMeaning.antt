@@ -1,5 +1,5 @@
 -- The flat job of a job gives to its sinks what the job gives.
-use Rattle.std.proofs.Common.{arith, ◌≡◌, ◌∙◌, refl, sym, ap, ℕ, suc, ◌+◌, ◌<◌, List, [], ◌∷◌, ◌++◌, false, cond, length, map, slice_get, Option, Some, add-zero, zero-add, true≢false}
+use Rattle.std.proofs.Common.{arith, ◌≡◌, ◌∙◌, refl, sym, ap, ℕ, suc, ◌+◌, List, [], ◌∷◌, ◌++◌, false, cond, length, map, slice_get, Option, Some, add-zero, zero-add, true≢false}
 use Rattle.std.proofs.lemmas.List.{map-append}
 use Rattle.std.specs.List.{cons_option, filter_map, flat_map}
 use Rattle.std.specs.Prelude.{option_to_list}
@@ -19,7 +19,7 @@ use Rattle.nemo_job.specs.Ends as ends
 use Rattle.nemo_job.specs.Held.{IsPlaced, faults_given, sink_at, sinks_given}
 use Rattle.nemo_transform.specs.Sinks.{does_sink}
 use Rattle.nemo_job.specs.Refusals.{IsJob}
-use Rattle.nemo_job.specs.Sinks.{job_faults, place_of, sinks_reached}
+use Rattle.nemo_job.specs.Sinks.{job_faults, sinks_reached}
 use Rattle.nemo_job.specs.Unrolled.{Copy, placed_copies, placed_copy, unrolled}
 use Rattle.nemo_job.specs.declared.vertex.JobVertex.{JobVertex}
 use Rattle.nemo_job.proofs.Natural.{renamed, renamed_fault}

@@ -1,11 +1,11 @@
 -- The names of a flat job differ, and hold neither a space nor a newline.
-use Rattle.std.proofs.Common.{arith, ◌≡◌, ◌∙◌, refl, sym, ap, subst, ℕ, zero, suc, ◌+◌, ◌<◌, ◌≤◌, ◌⊎◌, inl, inr, ◌^◌, ◌==◌, ◌&&◌, ◌||◌, not, List, [], ◌∷◌, ◌++◌, Bool, true, false, cond, length, map, decimal, true≢false}
+use Rattle.std.proofs.Common.{arith, ◌≡◌, ◌∙◌, refl, sym, ap, subst, ℕ, suc, ◌+◌, ◌<◌, ◌≤◌, ◌⊎◌, inl, inr, ◌^◌, ◌==◌, ◌||◌, not, List, [], ◌∷◌, ◌++◌, Bool, true, false, cond, length, map, decimal, true≢false}
 use Rattle.std.proofs.lemmas.Bool.{and_from}
 use Rattle.std.proofs.lemmas.Bool.Decides.{eqb_tells}
 use Rattle.std.proofs.lemmas.List.Elements.{All-append, All-cons, All-head, All-nil, All-tail}
 use Rattle.std.proofs.lemmas.List.Folds.{flat_map-map, list_all-append}
 use Rattle.std.specs.List.{All, flat_map, list_all, prefix_len}
-use Rattle.nemo_value.specs.Names.{is_name, is_name_byte}
+use Rattle.nemo_value.specs.Names.{is_name_byte}
 use Rattle.nemo_value.specs.Texts.{all_new}
 use Rattle.nemo_transform.specs.declared.transform.Transform.{Transform}
 use Rattle.nemo_job.specs.Mean.{turn_path}
@@ -24,7 +24,7 @@ use Rattle.nemo_job.proofs.FineSites.{AllFine, fine_sites}
 use Rattle.nemo_job.proofs.Induction.{Each, each_one}
 use Rattle.nemo_job.proofs.Layers.{loop_paths, op_path, vertex_path, work_paths}
 use Rattle.nemo_job.proofs.PathsApart.{paths_apart}
-use Rattle.nemo_flat.specs.Flattened.{Numbered, flat_vertex, flattened, is_taken, kept, kept_from}
+use Rattle.nemo_flat.specs.Flattened.{Numbered, flat_vertex, flattened, kept, kept_from}
 use Rattle.nemo_flat.specs.Keeping.{is_wanted}
 use Rattle.nemo_flat.specs.Names.{is_word, vertex_names}
 
