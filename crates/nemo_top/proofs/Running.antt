@@ -3,7 +3,7 @@ use Rattle.std.proofs.Common.{◌≡◌, ◌∙◌, ap, sym, subst, List, [], tr
 use Rattle.nemo_bundle.specs.declared.bundle.Bundle.{Bundle}
 use Rattle.nemo_core.specs.declared.event.Event.{Event}
 use Rattle.nemo_flat.proofs.ChainValue.{keeps_faults, keeps_none, keeps_rows}
-use Rattle.nemo_flat.specs.Flat.{IsChainForm}
+use Rattle.nemo_ir.specs.Line.{IsLine}
 use Rattle.nemo_ir.specs.Meaning.{flat_faults, flat_rows}
 use Rattle.nemo_ir.specs.Uniform.{is_uniform}
 use Rattle.nemo_ir.specs.Valid.{Valid}
@@ -20,20 +20,22 @@ use Rattle.nemo_value.specs.declared.record.SinkRows.{SinkRows}
 use Rattle.nemo_top.specs.Bundles.{dag_of, plan_of}
 use Rattle.nemo_top.specs.Ends.{IsSoloDone}
 use Rattle.nemo_top.specs.Served.{IsRunnable}
+use Rattle.nemo_top.proofs.Chains.{chain_line}
 
--- the flat job of a chain
-pub chain_form : (b : Bundle) → IsRunnable b → IsChainForm b.flat
-chain_form b runs = (b.job, runs.chain, runs.flat)
-
+-- its ports are all Main
 pub main_ports : (b : Bundle) → IsRunnable b → HasMainPorts b.flat
 main_ports b runs = subst HasMainPorts (sym runs.flat) (chain_main b.job runs.chain)
 
 -- no fault reaches a sink of it
-pub faultless_form : (b : Bundle) → IsRunnable b → flat_faults b.flat ≡ []
+faultless_form : (b : Bundle) → IsRunnable b → flat_faults b.flat ≡ []
 faultless_form b runs = ap flat_faults runs.flat ∙ keeps_none b.job runs.chain
 
+-- nor in its plan, whose flat job is a line
 pub faultless_plan : (b : Bundle) (dag : IrDag) (p : PlanForm) → IsRunnable b → p ≡ record { flat = b.flat; dag = dag } → flat_faults p.flat ≡ []
 faultless_plan b dag p runs is = ap (λ p. flat_faults p.flat) is ∙ faultless_form b runs
+
+pub line_plan : (b : Bundle) (dag : IrDag) (p : PlanForm) → IsRunnable b → p ≡ record { flat = b.flat; dag = dag } → IsLine p.flat
+line_plan b dag p runs is = subst (λ p. IsLine p.flat) (sym is) (chain_line b runs.chain runs.flat)
 
 -- its sinks get what the job gives them
 pub same_rows : (b : Bundle) → IsRunnable b → flat_rows b.flat ≡ job_rows b.job
