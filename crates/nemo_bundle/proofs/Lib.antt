@@ -2,5 +2,7 @@ pub mod Chosen
 pub mod Depths
 pub mod FittingSites
 pub mod Fronts
+pub mod KeptScripts
 pub mod Lengths
 pub mod ShortCuts
+pub mod Unnamed

@@ -2,14 +2,11 @@
 use Rattle.std.specs.Prelude.{ℕ, if◌then◌else◌, List, Option, Some, None, option_map, option_and_then, slice_get, Result, Ok, Err, codes}
 use Rattle.serde_json.specs.Data.{Data, Items, no_items, item}
 use Rattle.serde_json.specs.Find.{as_array, as_str}
+use Rattle.nemo_base.specs.Words.{class_named, pattern_named, flow_named, keep_named}
 use Rattle.nemo_base.specs.declared.annotation.Class.{Class}
-use Rattle.nemo_base.specs.declared.annotation.Class.TheVariants as class
 use Rattle.nemo_base.specs.declared.annotation.Flow.{Flow}
-use Rattle.nemo_base.specs.declared.annotation.Flow.TheVariants as flow
 use Rattle.nemo_base.specs.declared.annotation.Keep.{Keep}
-use Rattle.nemo_base.specs.declared.annotation.Keep.TheVariants as keep
 use Rattle.nemo_base.specs.declared.annotation.Pattern.{Pattern}
-use Rattle.nemo_base.specs.declared.annotation.Pattern.TheVariants.{OneToOne, Broadcast, Hash, Spread}
 use Rattle.nemo_ir.specs.declared.dag.IrDag.{IrDag}
 use Rattle.nemo_ir.specs.declared.dag.IrEdge.{IrEdge}
 use Rattle.nemo_ir.specs.declared.dag.IrVertex.{IrVertex}
@@ -26,12 +23,6 @@ use Rattle.nemo_bundle.specs.declared.end.Code.TheVariants.{DagVertex, DagEdge, 
 
 ---- vertices
 
-abbrev pub class_of : List ℕ → Option Class
-class_of word =
-    if same_text word (codes "reserved") then Some class.Reserved
-    else (if same_text word (codes "transient") then Some class.Transient
-    else None)
-
 abbrev pub entry_with : VertexKind → Option Class → Option ℕ → Option IrVertex
 entry_with kind (Some class) (Some tasks) = Some (record { kind = kind; class = class; parallelism = tasks })
 entry_with kind (Some class) None = None
@@ -42,7 +33,7 @@ abbrev pub op_at : List FlatVertex → ℕ → Option VertexKind
 op_at flat x = option_map (λ v. Op v.transform) (slice_get flat x)
 
 abbrev pub op_with : Option VertexKind → Data → Data → Option IrVertex
-op_with (Some kind) class tasks = entry_with kind (option_and_then class_of (as_str class)) (number_of tasks)
+op_with (Some kind) class tasks = entry_with kind (option_and_then class_named (as_str class)) (number_of tasks)
 op_with None class tasks = None
 
 abbrev pub utility_of : List ℕ → Option VertexKind
@@ -66,26 +57,6 @@ entry_of flat i d = option_and_then (entry_by flat) (call_of d)
 
 ---- edges
 
-abbrev pub pattern_of : List ℕ → Option Pattern
-pattern_of word =
-    if same_text word (codes "one") then Some OneToOne
-    else (if same_text word (codes "broadcast") then Some Broadcast
-    else (if same_text word (codes "hash") then Some Hash
-    else (if same_text word (codes "spread") then Some Spread
-    else None)))
-
-abbrev pub flow_of : List ℕ → Option Flow
-flow_of word =
-    if same_text word (codes "push") then Some flow.Push
-    else (if same_text word (codes "pull") then Some flow.Pull
-    else None)
-
-abbrev pub keep_of : List ℕ → Option Keep
-keep_of word =
-    if same_text word (codes "keep") then Some keep.Keep
-    else (if same_text word (codes "discard") then Some keep.Discard
-    else None)
-
 -- where an edge leads
 abbrev pub Ends : Type 0
 Ends = ℕ × ℕ × ℕ
@@ -100,7 +71,7 @@ ends_of from to port = option_and_then (λ f. option_and_then (λ t. option_map 
 -- a pattern, a flow and a keep
 abbrev pub way_of : Items → Option Way
 way_of (item pattern (item flow (item keep no_items))) =
-    option_and_then (λ p. option_and_then (λ f. option_map (λ k. (p, f, k)) (option_and_then keep_of (as_str keep))) (option_and_then flow_of (as_str flow))) (option_and_then pattern_of (as_str pattern))
+    option_and_then (λ p. option_and_then (λ f. option_map (λ k. (p, f, k)) (option_and_then keep_named (as_str keep))) (option_and_then flow_named (as_str flow))) (option_and_then pattern_named (as_str pattern))
 way_of _ = None
 
 abbrev pub edge_with : Option Ends → Option Way → Option IrEdge

@@ -2,7 +2,6 @@
 use Rattle.std.specs.Prelude.{Bool, nat_le, if◌then◌else◌, List, Option, Some, None, Result, Ok, Err, codes}
 use Rattle.serde_json.specs.Data.{Data, Items}
 use Rattle.serde_json.specs.Find.{get, as_array}
-use Rattle.nemo_base.specs.declared.settings.Settings.{Settings}
 use Rattle.nemo_flat.specs.Counts.{copies}
 use Rattle.nemo_flat.specs.Flattened.{flattened}
 use Rattle.nemo_ir.specs.declared.flat.FlatVertex.{FlatVertex}
@@ -11,12 +10,12 @@ use Rattle.nemo_job.specs.declared.vertex.JobVertex.{JobVertex}
 use Rattle.nemo_read.specs.Parts.{is_exactly, member_of, whole_of}
 use Rattle.nemo_bundle.specs.Answers.{Refusal, on_ok, refused}
 use Rattle.nemo_bundle.specs.Choices.{choices_of}
+pub use Rattle.nemo_bundle.specs.Choices.{cluster_of}
 use Rattle.nemo_bundle.specs.Dags.{at_code, dag_in}
 use Rattle.nemo_bundle.specs.Scripts.{schedule_in, script_in}
 use Rattle.nemo_bundle.specs.Vertices.{Walk, vertices_in}
 use Rattle.nemo_bundle.specs.declared.bundle.Bundle.{Bundle}
 use Rattle.nemo_bundle.specs.declared.bundle.Members.{Members}
-use Rattle.nemo_bundle.specs.declared.choices.Cluster.{Cluster}
 use Rattle.nemo_bundle.specs.declared.end.Code.TheVariants.{Top, VertexShape, TooMany, Setting, ScriptLine, Step}
 
 -- code 1: the value is no object, or `nemo` isn't 1
@@ -43,10 +42,6 @@ accepted vs None = Ok vs
 -- code 9: more than 512 copies
 abbrev pub counted : List JobVertex → Result (List JobVertex) Refusal
 counted vs = if nat_le (copies vs) 512 then Ok vs else Err (refused TooMany (copies vs))
-
--- the slots of a run
-abbrev pub cluster_of : Settings → Cluster
-cluster_of settings = record { reserved = settings.reserved; transient = settings.transient }
 
 -- codes 10 to 15: the members beside the job, for a flat job of these vertices
 abbrev pub members_of : Data → List FlatVertex → Result Members Refusal

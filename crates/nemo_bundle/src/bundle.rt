@@ -1,25 +1,25 @@
-ghost use Rattle.std.specs.Prelude.{◌≡◌, ◌≤◌, true, IfOk, codes, is_some};
+ghost use Rattle.std.specs.Prelude.{◌≡◌, ◌≤◌, true, IfErr, IfOk, codes, is_some};
 ghost use Rattle.std.specs.List.{list_all};
 ghost use Rattle.serde_json.specs.Find.{get};
 ghost use Rattle.serde_json.specs.View.{view};
-ghost use Rattle.nemo_flat.specs.Counts.{copies};
+ghost use Rattle.nemo_base.specs.Script.{IsScript};
+ghost use Rattle.nemo_flat.specs.Counts.{IsTooMany, copies};
 ghost use Rattle.nemo_flat.specs.Flattened.{flattened};
 ghost use Rattle.nemo_ir.specs.declared.flat.FlatVertex.{FlatVertex};
 ghost use Rattle.nemo_job.specs.Chain.{has_fields};
 ghost use Rattle.nemo_job.specs.Fitting.{are_fitting};
 ghost use Rattle.nemo_bundle.specs.Answers.{Gives};
-ghost use Rattle.nemo_bundle.specs.Choices.{AreInRange};
 ghost use Rattle.nemo_bundle.specs.Read.{bundle_of, job_in, job_of};
 ghost use Rattle.nemo_bundle.specs.Read as spec;
 
-use crate::choices::{Choices, Cluster, read_choices};
+use crate::choices::{Choices, read_choices};
 use crate::dags::read_dag;
 use crate::end::{BundleEnd, Code, coded};
 use crate::schedules::read_schedule;
 use crate::scripts::read_script;
 use crate::walk::{MAX_DEPTH, read_vertices};
 use nemo_base::{Move, Policy, ScriptLine, Settings};
-use nemo_flat::{flat_vertices, flatten};
+use nemo_flat::{FlattenRefused, check_copies, flat_vertices, flatten};
 use nemo_ir::{FlatJob, FlatVertex, IrDag};
 use nemo_job::{Job, JobVertex};
 use nemo_value::List;
@@ -44,35 +44,65 @@ pub struct Bundle {
 pub fn read_bundle(alloc: Global, value: &Value) -> Result<Bundle, BundleEnd>
     ensures bundle { Gives result (bundle_of (view value.now)) }
     ensures tasks { IfOk result (λ b. (1 ≤ b.parallelism) × (b.parallelism ≤ 64)) }
-    ensures settings { IfOk result (λ b. AreInRange b.settings) }
+    ensures script { IfOk result (λ b. IsScript b.settings b.script) }
     ensures filled { IfOk result (λ b. list_all has_fields b.job ≡ true) }
     ensures flat { IfOk result (λ b. b.flat ≡ flattened b.job) }
     ensures given { IfOk result (λ b. is_some b.dag ≡ is_some (get (codes "dag") (view value.now))) }
 {
     let job = accepted_job(alloc, value)?;
     let flat = flatten(alloc, &job)?;
-    let members = read_members(alloc, value, flat.vertices.as_slice())?;
+    let Members {
+        choices,
+        script,
+        schedule,
+        dag,
+    } = read_members(alloc, value, flat.vertices.as_slice())?;
+    let Choices {
+        parallelism,
+        policy,
+        settings,
+    } = choices;
     Ok(Bundle {
         job,
         flat,
-        settings: members.choices.settings,
-        parallelism: members.choices.parallelism,
-        policy: members.choices.policy,
-        dag: members.dag,
-        script: members.script,
-        schedule: members.schedule,
+        settings,
+        parallelism,
+        policy,
+        dag,
+        script,
+        schedule,
     })
 }
 
 /// The job of the bundle that a JSON value stands for, or the same refusal. It makes no flat job, which has copies of the
-/// job's transforms and so of the rows of its sources.
+/// job's transforms and so of the rows of its sources, and unrolls loops only for a DAG that names their copies.
 pub fn read_job(alloc: Global, value: &Value) -> Result<Job, BundleEnd>
     ensures job { Gives result (job_in (view value.now)) }
 {
     let job = accepted_job(alloc, value)?;
-    let flat = flat_vertices(alloc, &job)?;
-    read_members(alloc, value, flat.as_slice())?;
+    let named = named_vertices(alloc, value, &job)?;
+    read_members(alloc, value, named.as_slice())?;
     Ok(job)
+}
+
+/// The vertices of the flat job, which a proposed DAG names, or none where no DAG is proposed; or the refusal of code 9.
+#[tactic(auto, using(crate::proofs::Unnamed::no_dag))]
+fn named_vertices(
+    alloc: Global,
+    value: &Value,
+    job: &Job,
+) -> Result<List<FlatVertex>, FlattenRefused>
+    ensures members { IfOk result (λ named. spec.members_of (view value.now) named ≡ spec.members_of (view value.now) (flattened job.now).vertices) }
+    ensures few { IfOk result (λ named. copies job.now ≤ 512) }
+    ensures end { IfErr result (IsTooMany (copies job.now)) }
+{
+    match value.get("dag") {
+        Some(_) => flat_vertices(alloc, job),
+        None => {
+            check_copies(job)?;
+            Ok(List::new(alloc))
+        }
+    }
 }
 
 /// The job, or the refusal of codes 1 to 8.
@@ -125,15 +155,14 @@ struct Members {
 fn read_members(alloc: Global, value: &Value, flat: &[FlatVertex]) -> Result<Members, BundleEnd>
     ensures members { Gives result (spec.members_of (view value.now) flat.now) }
     ensures tasks { IfOk result (λ m. (1 ≤ m.choices.parallelism) × (m.choices.parallelism ≤ 64)) }
-    ensures settings { IfOk result (λ m. AreInRange m.choices.settings) }
+    ensures script { IfOk result (λ m. IsScript m.choices.settings m.script) }
     ensures given { IfOk result (λ m. is_some m.dag ≡ is_some (get (codes "dag") (view value.now))) }
 {
     let choices = coded(Code::Setting, read_choices(alloc, value))?;
-    let cluster = Cluster {
-        reserved: choices.settings.reserved,
-        transient: choices.settings.transient,
-    };
-    let script = coded(Code::ScriptLine, read_script(alloc, cluster, value))?;
+    let script = coded(
+        Code::ScriptLine,
+        read_script(alloc, choices.settings, value),
+    )?;
     let schedule = coded(Code::Step, read_schedule(alloc, value))?;
     let dag = read_dag(alloc, value, flat)?;
     Ok(Members {

@@ -5,6 +5,7 @@ ghost use Rattle.nemo_bundle.specs.Answers.{Walks};
 ghost use Rattle.nemo_bundle.specs.Choices as spec;
 
 use crate::end::{WalkEnd, placed};
+use nemo_base::limits::{self, Range};
 use nemo_base::{Policy, Settings};
 use nemo_read::{PartEnd, read_member, read_ranged};
 use serde_json::Value;
@@ -17,6 +18,18 @@ pub(crate) struct Cluster {
     pub(crate) transient: u32,
 }
 
+impl Cluster {
+    /// Of settings.
+    pub fn of(settings: Settings) -> Cluster
+        ensures { result ≡ spec.cluster_of settings }
+    {
+        Cluster {
+            reserved: settings.reserved,
+            transient: settings.transient,
+        }
+    }
+}
+
 /// What a bundle says of its run.
 #[derive(Clone, Copy)]
 pub(crate) struct Choices {
@@ -25,55 +38,17 @@ pub(crate) struct Choices {
     pub(crate) settings: Settings,
 }
 
-/// The most slots of a cluster.
-const MAX_SLOTS: u64 = 64;
-
-/// The numbers that a member may be, and the one that stands for it where it is absent.
-#[derive(Clone, Copy)]
-struct Range {
-    least: u32,
-    usual: u32,
-    most: u32,
-}
-
-const TASKS: Range = Range {
-    least: 1,
-    usual: 4,
-    most: 64,
-};
-
-const LOSS_BOUND: Range = Range {
-    least: 1,
-    usual: 8,
-    most: 1000,
-};
-
-const PIECE: Range = Range {
-    least: 1,
-    usual: 65536,
-    most: 1_048_576,
-};
-
-const SAMPLE: Range = Range {
-    least: 1,
-    usual: 8,
-    most: 1000,
-};
-
-const DECODED: Range = Range {
-    least: 0,
-    usual: 16_777_216,
-    most: 1_073_741_824,
-};
-
 /// What the members of a bundle say of its run, or the place of the first that has not its form: 0 the cluster, 1 the
 /// parallelism, 2 the policy, 3 to 6 the settings.
 pub(crate) fn read_choices(alloc: Global, value: &Value) -> Result<Choices, WalkEnd>
     ensures choices { Walks (λ c. c) result (spec.choices_of (view value.now)) }
-    ensures range { IfOk result (λ c. (1 ≤ c.parallelism) × (c.parallelism ≤ 64) × spec.AreInRange c.settings) }
+    ensures range { IfOk result (λ c. (1 ≤ c.parallelism) × (c.parallelism ≤ 64)) }
 {
     let cluster = placed(0, read_cluster(alloc, value.get("cluster")))?;
-    let parallelism = placed(1, read_number(alloc, value.get("parallelism"), TASKS))?;
+    let parallelism = placed(
+        1,
+        read_number(alloc, value.get("parallelism"), limits::PARALLELISM),
+    )?;
     let policy = placed(2, read_policy(value.get("policy")))?;
     let settings = read_settings(alloc, cluster, value.get("settings"))?;
     Ok(Choices {
@@ -83,20 +58,20 @@ pub(crate) fn read_choices(alloc: Global, value: &Value) -> Result<Choices, Walk
     })
 }
 
-/// The cluster of a member, or one reserved slot where it is absent.
+/// The cluster of a member, or the default one where it is absent.
 fn read_cluster(alloc: Global, member: Option<&Value>) -> Result<Cluster, PartEnd>
     ensures cluster { Reads result (spec.cluster_in (option_map (λ v. view v.now) member.entry)) }
     ensures range { IfOk result (λ c. (1 ≤ c.reserved) × (c.reserved + c.transient ≤ 64)) }
 {
     let Some(value) = member else {
         return Ok(Cluster {
-            reserved: 1,
-            transient: 0,
+            reserved: limits::DEFAULT_RESERVED,
+            transient: limits::DEFAULT_TRANSIENT,
         });
     };
     let reserved: u32 = read_member(alloc, value, "reserved")?;
     let transient: u32 = read_member(alloc, value, "transient")?;
-    if 1 <= reserved && u64::from(reserved) + u64::from(transient) <= MAX_SLOTS {
+    if 1 <= reserved && u64::from(reserved) + u64::from(transient) <= u64::from(limits::MAX_SLOTS) {
         Ok(Cluster {
             reserved,
             transient,
@@ -123,20 +98,11 @@ fn read_policy(member: Option<&Value>) -> Result<Policy, PartEnd>
     ensures { Reads result (spec.policy_in (option_map (λ v. view v.now) member.entry)) }
 {
     match member {
-        Some(value) => value.as_str().and_then(policy_of).ok_or(PartEnd::Malformed),
+        Some(value) => value
+            .as_str()
+            .and_then(Policy::from_word)
+            .ok_or(PartEnd::Malformed),
         None => Ok(Policy::Plain),
-    }
-}
-
-fn policy_of(word: &str) -> Option<Policy>
-    ensures { result ≡ spec.policy_of word.now }
-{
-    match word {
-        "plain" => Some(Policy::Plain),
-        "pado" => Some(Policy::Pado),
-        "skew" => Some(Policy::Skew),
-        "pado_skew" => Some(Policy::PadoSkew),
-        _ => None,
     }
 }
 
@@ -149,12 +115,11 @@ fn read_settings(
     requires reserved { 1 ≤ cluster.reserved }
     requires slots { cluster.reserved + cluster.transient ≤ 64 }
     ensures settings { Walks (λ s. s) result (spec.settings_of cluster (option_map (λ v. view v.now) member.entry)) }
-    ensures range { IfOk result (λ s. spec.AreInRange s) }
 {
     let loss_bound = placed(3, read_loss_bound(alloc, member))?;
-    let piece = placed(4, read_setting(alloc, member, "piece", PIECE))?;
-    let sample = placed(5, read_setting(alloc, member, "sample", SAMPLE))?;
-    let decoded = placed(6, read_setting(alloc, member, "decoded", DECODED))?;
+    let piece = placed(4, read_setting(alloc, member, "piece", limits::PIECE))?;
+    let sample = placed(5, read_setting(alloc, member, "sample", limits::SAMPLE))?;
+    let decoded = placed(6, read_setting(alloc, member, "decoded", limits::DECODED))?;
     Ok(Settings {
         reserved: cluster.reserved,
         transient: cluster.transient,
@@ -171,7 +136,7 @@ fn read_loss_bound(alloc: Global, settings: Option<&Value>) -> Result<u32, PartE
     ensures range { IfOk result (λ n. (1 ≤ n) × (n ≤ 1000)) }
 {
     if is_record(settings) {
-        read_setting(alloc, settings, "loss_bound", LOSS_BOUND)
+        read_setting(alloc, settings, "loss_bound", limits::LOSS_BOUND)
     } else {
         Err(PartEnd::Malformed)
     }

@@ -122,7 +122,10 @@ fn with_kind(
 {
     Ok(IrVertex {
         kind,
-        class: class.as_str().and_then(class_of).ok_or(PartEnd::Malformed)?,
+        class: class
+            .as_str()
+            .and_then(Class::from_word)
+            .ok_or(PartEnd::Malformed)?,
         parallelism: u32::from_json(alloc, tasks)?,
     })
 }
@@ -142,16 +145,6 @@ fn utility_of(word: &str) -> Option<VertexKind>
     match word {
         "relay" => Some(VertexKind::Relay),
         "trigger" => Some(VertexKind::Trigger),
-        _ => None,
-    }
-}
-
-fn class_of(word: &str) -> Option<Class>
-    ensures { result ≡ spec.class_of word.now }
-{
-    match word {
-        "reserved" => Some(Class::Reserved),
-        "transient" => Some(Class::Transient),
         _ => None,
     }
 }
@@ -219,42 +212,10 @@ fn way_of(items: &[Value]) -> Option<(Pattern, Flow, Keep)>
 {
     match items {
         [pattern, flow, keep] => Some((
-            pattern_of(pattern.as_str()?)?,
-            flow_of(flow.as_str()?)?,
-            keep_of(keep.as_str()?)?,
+            Pattern::from_word(pattern.as_str()?)?,
+            Flow::from_word(flow.as_str()?)?,
+            Keep::from_word(keep.as_str()?)?,
         )),
-        _ => None,
-    }
-}
-
-fn pattern_of(word: &str) -> Option<Pattern>
-    ensures { result ≡ spec.pattern_of word.now }
-{
-    match word {
-        "one" => Some(Pattern::OneToOne),
-        "broadcast" => Some(Pattern::Broadcast),
-        "hash" => Some(Pattern::Hash),
-        "spread" => Some(Pattern::Spread),
-        _ => None,
-    }
-}
-
-fn flow_of(word: &str) -> Option<Flow>
-    ensures { result ≡ spec.flow_of word.now }
-{
-    match word {
-        "push" => Some(Flow::Push),
-        "pull" => Some(Flow::Pull),
-        _ => None,
-    }
-}
-
-fn keep_of(word: &str) -> Option<Keep>
-    ensures { result ≡ spec.keep_of word.now }
-{
-    match word {
-        "keep" => Some(Keep::Keep),
-        "discard" => Some(Keep::Discard),
         _ => None,
     }
 }

@@ -8,14 +8,11 @@ ghost use Rattle.nemo_bundle.specs.Scripts as spec;
 use crate::end::WalkEnd;
 use crate::entries::{ReadAt, read_items_at};
 use crate::scripts::read_cuts;
-use nemo_base::{BlockId, Move, TaskId};
+use nemo_base::{BlockId, Move, TaskId, limits};
 use nemo_read::{Call, FromJson, PartEnd};
 use nemo_value::List;
 use serde_json::Value;
 use std::alloc::Global;
-
-/// The most moves of a schedule.
-const MAX_MOVES: usize = 65536;
 
 /// The moves of the member `schedule`, which may be absent, or the place of the first that can't be read.
 pub(crate) fn read_schedule(alloc: Global, value: &Value) -> Result<List<Move>, WalkEnd>
@@ -44,7 +41,7 @@ impl ReadAt for Moves {
     fn read_at(&self, alloc: Global, place: usize, value: &Value) -> Result<Move, PartEnd> {
         let call = Call::of(value).ok_or(PartEnd::Malformed)?;
         let read = read_move(alloc, call.word, call.args)?;
-        if place < MAX_MOVES {
+        if place < limits::MAX_SCHEDULE_MOVES {
             Ok(read)
         } else {
             Err(PartEnd::Malformed)

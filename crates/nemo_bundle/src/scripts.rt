@@ -1,37 +1,36 @@
-ghost use Rattle.std.specs.Prelude.{◌≡◌, None, codes, if◌then◌else◌};
+ghost use Rattle.std.specs.Prelude.{◌≡◌, None, IfOk, codes, if◌then◌else◌};
 ghost use Rattle.serde_json.specs.Find.{as_str, get};
 ghost use Rattle.serde_json.specs.View.{view, items_view};
+ghost use Rattle.nemo_base.specs.Script.{IsScript};
 ghost use Rattle.nemo_read.specs.Answers.{Reads};
 ghost use Rattle.nemo_read.specs.Parts as parts;
 ghost use Rattle.nemo_bundle.specs.Answers.{Walks};
+ghost use Rattle.nemo_bundle.specs.Choices.{cluster_of};
 ghost use Rattle.nemo_bundle.specs.Scripts as spec;
 
 use crate::choices::Cluster;
 use crate::end::{WalkEnd, placed};
-use nemo_base::{Action, Cuts, ScriptLine};
+use nemo_base::{Action, Cuts, ScriptLine, Settings, limits};
 use nemo_read::{FromJson, PartEnd, is_word, read_ranged};
 use nemo_value::List;
 use serde_json::Value;
 use std::alloc::Global;
 
-/// The most lines of a script.
-const MAX_LINES: usize = 4096;
-
-/// The most commits that a line can wait for.
-const MAX_AT: u32 = 1_000_000;
-
-/// The lines of the member `script`, which may be absent, or the place of the first that can't be read.
+/// The lines of the member `script`, which may be absent, or the place of the first that can't be read. They are a script
+/// of these settings.
+#[tactic(auto, using(crate::proofs::KeptScripts::lines_kept))]
 pub(crate) fn read_script(
     alloc: Global,
-    cluster: Cluster,
+    settings: Settings,
     value: &Value,
 ) -> Result<List<ScriptLine>, WalkEnd>
-    ensures { Walks (λ lines. lines) result (spec.script_in cluster (get (codes "script") (view value.now))) }
+    ensures lines { Walks (λ lines. lines) result (spec.script_in (cluster_of settings) (get (codes "script") (view value.now))) }
+    ensures script { IfOk result (λ lines. IsScript settings lines) }
 {
     match value.get("script") {
         Some(script) => {
             let items = script.as_array().ok_or(WalkEnd::Malformed { place: 0 })?;
-            read_lines(alloc, cluster, items.as_slice())
+            read_lines(alloc, Cluster::of(settings), items.as_slice())
         }
         None => Ok(List::new(alloc)),
     }
@@ -66,7 +65,7 @@ fn read_line(
 {
     let items = value.as_array().ok_or(PartEnd::Malformed)?;
     let line = line_from(alloc, cluster, items.as_slice())?;
-    if place < MAX_LINES && before <= line.at {
+    if place < limits::MAX_SCRIPT_LINES && before <= line.at {
         Ok(line)
     } else {
         Err(PartEnd::Malformed)
@@ -94,7 +93,7 @@ fn evict_line(
 {
     if is_word(word, "evict") {
         Ok(ScriptLine {
-            at: read_ranged(alloc, at, 0, MAX_AT)?,
+            at: read_ranged(alloc, at, 0, limits::MAX_SCRIPT_AT)?,
             action: read_evict(alloc, cluster, slot)?,
         })
     } else {
@@ -113,7 +112,7 @@ fn repartition_line(
 {
     if is_word(word, "repartition") {
         Ok(ScriptLine {
-            at: read_ranged(alloc, at, 0, MAX_AT)?,
+            at: read_ranged(alloc, at, 0, limits::MAX_SCRIPT_AT)?,
             action: read_repartition(alloc, vertex, cuts)?,
         })
     } else {

@@ -1,5 +1,5 @@
 -- What a job gives to its sinks.
-use Rattle.std.specs.Prelude.{ℕ, List, map, position, unwrap_or, Bool, true, false, filter}
+use Rattle.std.specs.Prelude.{ℕ, List, map, position, unwrap_or, Bool, false, filter}
 use Rattle.std.specs.List.{flat_map}
 use Rattle.std.specs.declared.cmp.Ordering.{Ordering}
 use Rattle.nemo_value.specs.Ascending.{ascending}

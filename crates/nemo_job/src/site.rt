@@ -1,6 +1,5 @@
-ghost use Rattle.std.specs.Prelude.{◌≡◌, List, [], true, map};
+ghost use Rattle.std.specs.Prelude.{◌≡◌, ◌&&◌, List, [], true, map, nat_le};
 ghost use Rattle.std.specs.List.{list_all, list_any};
-ghost use Rattle.nemo_transform.specs.Soundness as soundness;
 ghost use Rattle.nemo_value.specs.Names.{is_name};
 ghost use Rattle.nemo_value.specs.Texts.{all_new};
 ghost use Rattle.nemo_job.specs.Refusals as refusals;
@@ -10,17 +9,12 @@ ghost use Rattle.nemo_job.specs.declared.vertex.JobVertex.{JobVertex};
 
 use crate::scope::{Scope, are_known, is_any_from, is_taken};
 use crate::vertex::{JobVertex, Ref, Work};
+use nemo_base::limits::{MAX_CARRIED, MAX_NESTING, MAX_TURNS, MAX_UNION_PORTS};
 use nemo_transform::{Transform, ports};
 use nemo_value::Name;
 
-/// The most turns of a loop.
-const MAX_TURNS: u32 = 64;
-
-/// The most ports of a loop or a union.
-const MAX_PORTS: usize = 16;
-
 /// The most loops around a loop.
-pub(crate) const MAX_AROUND: u32 = 2;
+pub(crate) const MAX_AROUND: u32 = MAX_NESTING - 1;
 
 /// Which codes fail at a vertex.
 #[derive(Drop)]
@@ -72,17 +66,18 @@ fn names_differ(scope: &Scope<'_>, carry: &[Name]) -> bool
     true
 }
 
-fn is_few(count: usize) -> bool
-    ensures { result ≡ soundness.is_few count }
+/// Whether it is 1 to `most`.
+fn is_few(count: usize, most: usize) -> bool
+    ensures { result ≡ (nat_le 1 count && nat_le count most) }
 {
-    1 <= count && count <= MAX_PORTS
+    1 <= count && count <= most
 }
 
 fn has_ports(inputs: usize, work: &Work) -> bool
     ensures { result ≡ refusals.has_ports inputs (working work.now).doing }
 {
     match work {
-        Work::Op(Transform::Union { .. }) => is_few(inputs),
+        Work::Op(Transform::Union { .. }) => is_few(inputs, MAX_UNION_PORTS as usize),
         Work::Op(transform) => {
             let ports = ports(transform);
             inputs as u64 == u64::from(ports.main) + u64::from(ports.keyed) + u64::from(ports.side)
@@ -104,7 +99,7 @@ fn is_good(depth: u32, work: &Work) -> bool
         } => {
             1 <= *turns
                 && *turns <= MAX_TURNS
-                && is_few(carry.len())
+                && is_few(carry.len(), MAX_CARRIED)
                 && next.len() == carry.len()
                 && depth <= MAX_AROUND
                 && !has_end(body.as_slice())
