@@ -12,7 +12,7 @@ use Rattle.nemo_base.specs.declared.script.ScriptLine.{ScriptLine}
 use Rattle.nemo_base.specs.Settings.{SettingsForm}
 use Rattle.nemo_bundle.specs.Answers.{on_ok}
 use Rattle.nemo_bundle.specs.Choices.{choices_of, cluster_of, choices_with, cluster_in, parallelism_in, policy_in, settings_of, wanted}
-use Rattle.nemo_bundle.specs.Dags.{at_code, dag_in}
+use Rattle.nemo_bundle.specs.Dags.{dag_in}
 use Rattle.nemo_bundle.specs.Given.{given_in}
 use Rattle.nemo_bundle.specs.Read.{accepted_job, bundle_of, counted, members_of}
 use Rattle.nemo_bundle.specs.Scripts.{schedule_in, script_in}
@@ -69,9 +69,10 @@ in_wanted : {X Y : Type 0} (place : ℕ) (o : Option X) (f : X → Result Y ℕ)
 in_wanted place (Some x) f P h = h x refl
 in_wanted place None f P h = tt
 
-coded : {X : Type 0} (code : ℕ) (r : Result X ℕ) (x : X) → at_code code r ≡ Ok x → r ≡ Ok x
-coded code (Ok y) x h = cc h
-coded code (Err place) x h = absurd (cc h)
+-- what follows from either form of an answer
+by_cases : {X E : Type 0} (r : Result X E) (Q : Type 0) → ((x : X) → r ≡ Ok x → Q) → ((e : E) → r ≡ Err e → Q) → Q
+by_cases (Ok x) Q ok err = ok x refl
+by_cases (Err e) Q ok err = err e refl
 
 of_ok : {X E : Type 0} (r : Result X E) (P : X → Type 0) (x : X) → IfOk r P → r ≡ Ok x → P x
 of_ok r P x h is = subst (λ r. IfOk r P) is h
@@ -99,13 +100,15 @@ plain_choices d none =
 
 plain_members : (d : Data) (flat : List FlatVertex) → get (codes "policy") d ≡ None → IfOk (members_of d flat) (λ m. m.choices.policy ≡ Plain)
 plain_members d flat none =
-    in_ok (at_code 10 (choices_of d)) _ _ (λ c is. in_ok (at_code 11 (script_in (cluster_of c.settings) (get (codes "script") d))) _ _ (λ script _. in_ok (at_code 12 (schedule_in (get (codes "schedule") d))) _ _ (λ schedule _.
-    in_ok (dag_in flat (get (codes "dag") d)) _ _ (λ dag _. of_ok (choices_of d) (λ c. c.policy ≡ Plain) c (plain_choices d none) (coded 10 (choices_of d) c is)))))
+    by_cases (choices_of d) _ (λ c one. by_cases (script_in (cluster_of c.settings) (get (codes "script") d)) _ (λ script two. by_cases (schedule_in (get (codes "schedule") d)) _ (λ schedule three. by_cases (dag_in flat (get (codes "dag") d)) _ (λ dag four.
+    rw (one, two, three, four) (of_ok (choices_of d) (λ c. c.policy ≡ Plain) c (plain_choices d none) one))
+    (λ e four. rw (one, two, three, four) tt)) (λ e three. rw (one, two, three) tt)) (λ e two. rw (one, two) tt)) (λ e one. rw one tt)
 
 empty_members : (d : Data) (flat : List FlatVertex) → get (codes "script") d ≡ None → IfOk (members_of d flat) (λ m. m.script ≡ [])
 empty_members d flat none =
-    in_ok (at_code 10 (choices_of d)) _ _ (λ c _. in_ok (at_code 11 (script_in (cluster_of c.settings) (get (codes "script") d))) _ _ (λ script is. in_ok (at_code 12 (schedule_in (get (codes "schedule") d))) _ _ (λ schedule _.
-    in_ok (dag_in flat (get (codes "dag") d)) _ _ (λ dag _. empty_absent (get (codes "script") d) c.settings script none (coded 11 _ script is)))))
+    by_cases (choices_of d) _ (λ c one. by_cases (script_in (cluster_of c.settings) (get (codes "script") d)) _ (λ script two. by_cases (schedule_in (get (codes "schedule") d)) _ (λ schedule three. by_cases (dag_in flat (get (codes "dag") d)) _ (λ dag four.
+    rw (one, two, three, four) (empty_absent (get (codes "script") d) c.settings script none two))
+    (λ e four. rw (one, two, three, four) tt)) (λ e three. rw (one, two, three) tt)) (λ e two. rw (one, two) tt)) (λ e one. rw one tt)
 
 plain_bundle : (d : Data) → get (codes "policy") d ≡ None → IfOk (bundle_of d) (λ b. b.policy ≡ Plain)
 plain_bundle d none =
@@ -151,12 +154,3 @@ served_runnable d b is served filled flat tasks =
 -- one that proposes a DAG has one
 pub given_dag : (b : Bundle) → is_some b.dag ≡ true → (1 ≤ b.parallelism) × (b.parallelism ≤ 64) → HasDag b
 given_dag b given tasks = record { some = tasks.0; few = tasks.1; line = λ none. absurd (cc (given, ap is_some none)); plain = λ none. absurd (cc (given, ap is_some none)) }
-
--- in an answer
-pub given_dags : {E : Type 0} (d : Data) (r : Result Bundle E) → is_some (get (codes "dag") d) ≡ true → IfOk r (λ b. is_some b.dag ≡ is_some (get (codes "dag") d)) → IfOk r (λ b. (1 ≤ b.parallelism) × (b.parallelism ≤ 64)) → IfOk r HasDag
-given_dags d (Ok b) some given tasks = given_dag b (given ∙ some) tasks
-given_dags d (Err e) some given tasks = tt
-
-pub runnable_dags : {E : Type 0} (r : Result Bundle E) → IfOk r IsRunnable → IfOk r HasDag
-runnable_dags (Ok b) runs = runs.dag
-runnable_dags (Err e) runs = tt

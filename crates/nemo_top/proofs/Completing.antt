@@ -1,12 +1,14 @@
 -- From what a call answers to what it must answer.
-use Rattle.std.proofs.Common.{◌≡◌, ◌∙◌, ap, refl, sym, subst, inl, inr, ℕ, ◌≤◌, List, [], ◌∷◌, ◌++◌, length, Result, Ok, Err, Option, Some, None, IfSome, slice_get, append-nil, length-append, arith, ◌≢◌, OnOk, OnErr}
+use Rattle.std.proofs.Common.{◌≡◌, ◌∙◌, ap, refl, sym, subst, inl, inr, ℕ, ◌≤◌, List, [], ◌∷◌, ◌++◌, length, Result, Ok, Err, Option, Some, None, IfSome, slice_get, append-nil, length-append, arith, OnOk}
 use Rattle.std.specs.Io.KnownBytes.{Consumes, IsAtEnd}
 use Rattle.serde_json.specs.Data.{Data}
 use Rattle.nemo_bundle.specs.declared.bundle.Bundle.{Bundle}
 use Rattle.nemo_core.specs.declared.event.Event.{Event}
 use Rattle.nemo_io.specs.Faults.{HasCause, Rose}
 use Rattle.nemo_ir.specs.Flat.{FlatForm}
-use Rattle.nemo_ir.specs.Valid.{Clause, V1, V2, V3, V4, V5, V6, V7, V8, V9, Valid, Holds, FirstAmong, clauses}
+use Rattle.nemo_ir.specs.declared.clause.Clause.{Clause}
+use Rattle.nemo_ir.specs.declared.clause.Clause.TheVariants.{V1, V2, V3, V4, V5, V6, V7, V8, V9}
+use Rattle.nemo_ir.specs.Valid.{Valid, Holds, FirstAmong, clauses}
 use Rattle.nemo_ir.specs.declared.dag.IrDag.{IrDag}
 use Rattle.nemo_job.specs.Sinks.{job_faults}
 use Rattle.nemo_transform.specs.Brought.{Arisen}

@@ -1,6 +1,6 @@
 -- What `check` and `solo` serve for now: chains, whose DAG may be proposed as Ops of one task each; and `check` every
 -- bundle that proposes a DAG.
-use Rattle.std.specs.Prelude.{◌≡◌, ◌≤◌, ◌&&◌, not, nat_le, Bool, true, if◌then◌else◌, List, [], Option, Some, None, IfSome, Result, Ok, Err}
+use Rattle.std.specs.Prelude.{◌≡◌, ◌≤◌, ◌&&◌, not, nat_le, Bool, true, if◌then◌else◌, [], Option, Some, None, IfSome, Result, Ok, Err}
 use Rattle.std.specs.List.{list_all}
 use Rattle.serde_json.specs.Data.{Data}
 use Rattle.nemo_base.specs.declared.annotation.Policy.TheVariants.{Plain}

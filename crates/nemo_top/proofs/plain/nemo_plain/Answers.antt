@@ -1,4 +1,4 @@
-use Rattle.std.proofs.Common.{◌≡◌, ◌∙◌, sym, subst, OnOk, OnErr}
+use Rattle.std.proofs.Common.{subst, OnOk, OnErr}
 use Rattle.std.specs.Cow.{cow_slice_items}
 use Rattle.std.specs.Io.KnownBytes.{Appends}
 use Rattle.nemo_io.specs.Told.{AppendsPart}
