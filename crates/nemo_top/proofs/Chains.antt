@@ -28,7 +28,7 @@ use Rattle.nemo_ir.specs.declared.dag.IrDag.{IrDag}
 use Rattle.nemo_ir.specs.declared.dag.IrVertex.{IrVertex}
 use Rattle.nemo_ir.specs.declared.flat.FlatVertex.{FlatVertex}
 use Rattle.nemo_job.specs.Chain.{has_fields, is_built, is_chain, names_of}
-use Rattle.nemo_top.specs.Served.{HasDag, IsRunnable, is_bare, is_served, is_single_if_any}
+use Rattle.nemo_top.specs.Served.{IsRunnable, is_bare, is_served, is_single_if_any}
 
 ---- the job and the DAG
 
@@ -150,7 +150,3 @@ served_runnable d b is served filled flat tasks =
       uniform = served_uniform (given_in d) b served;
       script = choices.1;
     }
-
--- one that proposes a DAG has one
-pub given_dag : (b : Bundle) → is_some b.dag ≡ true → (1 ≤ b.parallelism) × (b.parallelism ≤ 64) → HasDag b
-given_dag b given tasks = record { some = tasks.0; few = tasks.1; line = λ none. absurd (cc (given, ap is_some none)); plain = λ none. absurd (cc (given, ap is_some none)) }
