@@ -6,7 +6,7 @@ use Rattle.serde_json.specs.Find.{of_integer}
 use Rattle.serde_json.specs.View.{items_of}
 use Rattle.serde_json.specs.Written.{compact_text}
 use Rattle.nemo_value.specs.declared.expr.Kind.{Kind}
-use Rattle.nemo_value.specs.declared.expr.Kind.TheVariants.{DivZero, Overflow, Typed, NoField, Wide, Long}
+use Rattle.nemo_value.specs.Words.{kind_word}
 use Rattle.nemo_value.specs.declared.field.Field.{Field}
 use Rattle.nemo_value.specs.declared.field.Field.TheVariants.{Int, Text}
 use Rattle.nemo_value.specs.declared.record.SinkRows.{SinkRows}
@@ -49,15 +49,6 @@ abbrev pub sinks_lines : List SinkRows → List (List ℕ)
 sinks_lines = flat_map sink_lines
 
 ---- faults
-
--- the word of a kind of fault
-abbrev pub kind_word : Kind → List ℕ
-kind_word DivZero = codes "DivZero"
-kind_word Overflow = codes "Overflow"
-kind_word Typed = codes "Type"
-kind_word NoField = codes "NoField"
-kind_word Wide = codes "Wide"
-kind_word Long = codes "Long"
 
 -- the words of a fault: its kind, and the record that made it
 abbrev pub fault_words : Kind → List Field → List ℕ

@@ -22,21 +22,8 @@ fn push_words(alloc: Global, line: &mut Vec<u8>, kind: Kind, rec: &Record) -> Re
     ensures { OnOk result (line.new.items ≡ line.old.items ++ fault_words kind rec.now) }
 {
     let row = row_line(Vec::new(alloc), rec)?;
-    line.extend_from_slice(kind_word(kind))?;
+    line.extend_from_slice(kind.word().as_bytes())?;
     line.push(b' ')?;
     line.extend_from_slice(row.as_slice())?;
     Ok(())
-}
-
-fn kind_word(kind: Kind) -> &'static [u8]
-    ensures { result.now ≡ spec.kind_word kind }
-{
-    match kind {
-        Kind::DivZero => b"DivZero",
-        Kind::Overflow => b"Overflow",
-        Kind::Typed => b"Type",
-        Kind::NoField => b"NoField",
-        Kind::Wide => b"Wide",
-        Kind::Long => b"Long",
-    }
 }

@@ -1,10 +1,11 @@
 -- From what bytes lead to to what a call answers.
-use Rattle.std.proofs.Common.{◌≡◌, refl, sym, subst, ◌⊎◌, inl, inr, ℕ, ◌<◌, ◌≤◌, List, [], length, true, false, Result, Ok, Err, Option, Some, None, arith}
+use Rattle.std.proofs.Common.{◌≡◌, refl, sym, subst, inl, inr, ℕ, ◌<◌, ◌≤◌, List, [], length, false, Result, Ok, Err, Option, Some, arith, ◌∙◌, ◌≢◌, OnOk, OnErr}
 use Rattle.std.proofs.Math.Nat.{lt_of_not-le}
 use Rattle.std.proofs.lemmas.Bool.{true≢false}
-use Rattle.std.specs.Io.KnownBytes.{Consumes}
+use Rattle.std.specs.Io.KnownBytes.{Appends, Consumes}
 use Rattle.nemo_core.specs.declared.event.Event.{Event}
-use Rattle.nemo_io.specs.Faults.{Rose}
+use Rattle.nemo_io.specs.Faults.{HasCause, Rose}
+use Rattle.nemo_io.specs.Told.{AppendsPart}
 use Rattle.nemo_io.specs.declared.source.ReadRefused.{ReadRefused}
 use Rattle.nemo_io.specs.declared.source.ReadRefused.TheVariants as read
 use Rattle.nemo_top.specs.Answers.{Answers, Leads, Reads}
@@ -78,3 +79,31 @@ stands_alone call status new h (inr spent) = subst (λ s. Answers call s [] (sta
 pub stands_answers : (call : Call) (status new : Status) (log : List Event) (text : List ℕ) → Answers call status [] (status_text status) → StandsFor new status → Alone new log text → Answers call new log text
 stands_answers call status new log text h stands alone =
     subst (λ es. Answers call new es text) (sym alone.without) (subst (Answers call new []) (sym alone.line) (stands_alone call status new h stands))
+
+---- what is written
+
+-- before that there is no WriteFault
+no_write_fault : (call : Call) (status : Status) (log : List Event) (text : List ℕ) → Answers call status log text → status ≡ WriteFault → ⊥
+no_write_fault call status log text h fault = subst (λ s. Answers call s log text) fault h
+
+-- a part of the text, with the status that was reached
+pub part_written : {T E : Type 0} (call : Call) (reached status : Status) (log : List Event) (text : List ℕ) (before after : Option (List ℕ)) (r : Result T E) → Answers call reached log text → OnOk r (status ≡ reached)
+    → OnErr r (AppendsPart before after text) → status ≡ WriteFault → (reached : Status) × (text : List ℕ) × Answers call reached log text × AppendsPart before after text
+part_written call reached status log text before after (Ok t) h kept part fault = absurd (no_write_fault call reached log text h (sym kept ∙ fault))
+part_written call reached status log text before after (Err e) h kept part fault = (reached, text, h, part)
+
+-- the whole of it, with that status
+pub all_written : {T E : Type 0} (call : Call) (reached status : Status) (log : List Event) (text : List ℕ) (before after : Option (List ℕ)) (r : Result T E) → Answers call reached log text → OnOk r (status ≡ reached)
+    → OnErr r (status ≡ WriteFault) → OnOk r (Appends before after text) → status ≢ WriteFault → (text : List ℕ) × Answers call status log text × Appends before after text
+all_written call reached status log text before after (Ok t) h kept fault all other = (text, subst (λ s. Answers call s log text) (sym kept) h, all)
+all_written call reached status log text before after (Err e) h kept fault all other = absurd (other fault)
+
+-- the count of the sink's faults
+pub count_kept : {T E : Type 0} (status : Status) (before after : ℕ) (r : Result T E) → OnErr r (status ≡ WriteFault) → HasCause before after r → status ≢ WriteFault → after ≡ before
+count_kept status before after (Ok t) fault cause other = cause
+count_kept status before after (Err e) fault cause other = absurd (other fault)
+
+pub count_rose : {T E : Type 0} (call : Call) (reached status : Status) (log : List Event) (text : List ℕ) (before after : ℕ) (r : Result T E) → Answers call reached log text → OnOk r (status ≡ reached) → HasCause before after r → status ≡ WriteFault
+    → Rose before after
+count_rose call reached status log text before after (Ok t) h kept cause fault = absurd (no_write_fault call reached log text h (sym kept ∙ fault))
+count_rose call reached status log text before after (Err e) h kept cause fault = cause

@@ -1,5 +1,5 @@
 -- What is known of the bundles that `check` and `solo` serve.
-use Rattle.std.proofs.Common.{◌≡◌, refl, sym, subst, ◌∙◌, ap, ◌==◌, ℕ, ◌≤◌, List, [], ◌∷◌, Bool, Option, Some, None, is_none, is_some, true, false, ◌&&◌, IfSome, Result, Ok, Err, codes}
+use Rattle.std.proofs.Common.{◌≡◌, refl, sym, subst, ◌∙◌, ap, ◌==◌, ℕ, ◌≤◌, List, [], ◌∷◌, Option, Some, None, is_some, not, true, ◌&&◌, IfSome, Result, Ok, Err, IfOk, codes}
 use Rattle.std.proofs.lemmas.Bool.{eqb-true}
 use Rattle.std.specs.Cmp.{first_so, second_so}
 use Rattle.std.specs.Cmp.Derive.{both_true}
@@ -9,15 +9,15 @@ use Rattle.serde_json.specs.Find.{get}
 use Rattle.nemo_base.specs.declared.annotation.Policy.{Policy}
 use Rattle.nemo_base.specs.declared.annotation.Policy.TheVariants.{Plain}
 use Rattle.nemo_base.specs.declared.script.ScriptLine.{ScriptLine}
-use Rattle.nemo_base.specs.declared.settings.Settings.{Settings}
-use Rattle.nemo_bundle.specs.Answers.{Refusal, on_ok}
-use Rattle.nemo_bundle.specs.Choices.{AreInRange, choices_of, choices_with, policy_in, wanted}
-use Rattle.nemo_bundle.specs.Dags.{at_code}
-use Rattle.nemo_bundle.specs.Read.{accepted_job, bundle_of, bundle_with, cluster_of, counted, members_of}
-use Rattle.nemo_bundle.specs.Scripts.{script_in}
+use Rattle.nemo_base.specs.Settings.{SettingsForm}
+use Rattle.nemo_bundle.specs.Answers.{on_ok}
+use Rattle.nemo_bundle.specs.Choices.{choices_of, cluster_of, choices_with, cluster_in, parallelism_in, policy_in, settings_of, wanted}
+use Rattle.nemo_bundle.specs.Dags.{dag_in}
+use Rattle.nemo_bundle.specs.Given.{given_in}
+use Rattle.nemo_bundle.specs.Read.{accepted_job, bundle_of, counted, members_of}
+use Rattle.nemo_bundle.specs.Scripts.{schedule_in, script_in}
 use Rattle.nemo_bundle.specs.declared.bundle.Bundle.{Bundle}
-use Rattle.nemo_bundle.specs.declared.bundle.Members.{Members}
-use Rattle.nemo_bundle.specs.declared.choices.Choices.{Choices}
+use Rattle.nemo_bundle.specs.declared.given.Given.{Given}
 use Rattle.nemo_flat.proofs.ChainCopies.{chain_flattened}
 use Rattle.nemo_flat.proofs.ChainFlat.{chain_is, line_of}
 use Rattle.nemo_flat.specs.Flat.{flat_of}
@@ -28,15 +28,13 @@ use Rattle.nemo_ir.specs.declared.dag.IrDag.{IrDag}
 use Rattle.nemo_ir.specs.declared.dag.IrVertex.{IrVertex}
 use Rattle.nemo_ir.specs.declared.flat.FlatVertex.{FlatVertex}
 use Rattle.nemo_job.specs.Chain.{has_fields, is_built, is_chain, names_of}
-use Rattle.nemo_job.specs.declared.vertex.JobVertex.{JobVertex}
-use Rattle.nemo_top.specs.Served.{HasDag, IsRunnable, has_none_of, is_served, is_single_if_any, unserved_members}
+use Rattle.nemo_top.specs.Served.{HasDag, IsRunnable, is_bare, is_served, is_single_if_any}
 
 ---- the job and the DAG
 
 -- its job is a chain whose rows have fields
-served_chain : (d : Data) (b : Bundle) → is_served d b ≡ true → list_all has_fields b.job ≡ true → is_built b.job ≡ true
-served_chain d b h filled =
-    both_true (second_so (has_none_of unserved_members d) (is_chain b.job) (first_so (has_none_of unserved_members d && is_chain b.job) (is_single_if_any b.dag) h)) filled
+served_chain : (g : Given) (b : Bundle) → is_served g b ≡ true → list_all has_fields b.job ≡ true → is_built b.job ≡ true
+served_chain g b h filled = both_true (second_so (is_bare g) (is_chain b.job) (first_so (is_bare g && is_chain b.job) (is_single_if_any b.dag) h)) filled
 
 -- its flat job is a line
 pub chain_line : (b : Bundle) → is_built b.job ≡ true → b.flat ≡ flat_of b.job → IsLine b.flat
@@ -57,99 +55,99 @@ single_uniform (Some dag) h =
     (second_so (list_all (is_uniform_op 1) dag.vertices) (list_all is_uniform_edge dag.edges) h)
 
 -- a DAG that it proposes is uniform
-served_uniform : (d : Data) (b : Bundle) → is_served d b ≡ true → IfSome b.dag (λ dag. is_uniform dag ≡ true)
-served_uniform d b h = single_uniform b.dag (second_so (has_none_of unserved_members d && is_chain b.job) (is_single_if_any b.dag) h)
+served_uniform : (g : Given) (b : Bundle) → is_served g b ≡ true → IfSome b.dag (λ dag. is_uniform dag ≡ true)
+served_uniform g b h = single_uniform b.dag (second_so (is_bare g && is_chain b.job) (is_single_if_any b.dag) h)
 
 ---- the members that it hasn't
 
-ok_under : {X Y E : Type 0} (r : Result X E) (f : X → Result Y E) (y : Y) → on_ok r f ≡ Ok y → (x : X) × (r ≡ Ok x) × (f x ≡ Ok y)
-ok_under (Ok x) f y h = (x, refl, h)
-ok_under (Err e) f y h = absurd (cc h)
+-- what holds of an answer, step by step
+in_ok : {X Y E : Type 0} (r : Result X E) (f : X → Result Y E) (P : Y → Type 0) → ((x : X) → r ≡ Ok x → IfOk (f x) P) → IfOk (on_ok r f) P
+in_ok (Ok x) f P h = h x refl
+in_ok (Err e) f P h = tt
 
-wanted_under : {X Y : Type 0} (place : ℕ) (o : Option X) (f : X → Result Y ℕ) (y : Y) → wanted place o f ≡ Ok y → (x : X) × (o ≡ Some x) × (f x ≡ Ok y)
-wanted_under place (Some x) f y h = (x, refl, h)
-wanted_under place None f y h = absurd (cc h)
+in_wanted : {X Y : Type 0} (place : ℕ) (o : Option X) (f : X → Result Y ℕ) (P : Y → Type 0) → ((x : X) → o ≡ Some x → IfOk (f x) P) → IfOk (wanted place o f) P
+in_wanted place (Some x) f P h = h x refl
+in_wanted place None f P h = tt
 
-none_so : {X : Type 0} (o : Option X) → is_none o ≡ true → o ≡ None
+-- what follows from either form of an answer
+by_cases : {X E : Type 0} (r : Result X E) (Q : Type 0) → ((x : X) → r ≡ Ok x → Q) → ((e : E) → r ≡ Err e → Q) → Q
+by_cases (Ok x) Q ok err = ok x refl
+by_cases (Err e) Q ok err = err e refl
+
+of_ok : {X E : Type 0} (r : Result X E) (P : X → Type 0) (x : X) → IfOk r P → r ≡ Ok x → P x
+of_ok r P x h is = subst (λ r. IfOk r P) is h
+
+none_so : {X : Type 0} (o : Option X) → not (is_some o) ≡ true → o ≡ None
 none_so None h = refl
 none_so (Some x) h = absurd (cc h)
 
--- the members beside the job
-members_under : (d : Data) (b : Bundle) → bundle_of d ≡ Ok b → (vs : List JobVertex) × (m : Members) × (members_of d (flattened vs).vertices ≡ Ok m) × (bundle_with vs m ≡ b)
-members_under d b h =
-    let job = ok_under (accepted_job d) _ b h in
-    let count = ok_under (counted job.0) _ b job.2 in
-    let m = ok_under (members_of d (flattened job.0).vertices) _ b count.2 in
-    (job.0, m.0, m.1, cc m.2)
+policy_with : (p : ℕ) (policy : Policy) (r : Result SettingsForm ℕ) → policy ≡ Plain → IfOk (choices_with p policy r) (λ c. c.policy ≡ Plain)
+policy_with p policy (Ok settings) h = h
+policy_with p policy (Err place) h = tt
 
-coded : {X : Type 0} (code : ℕ) (r : Result X ℕ) (x : X) → at_code code r ≡ Ok x → r ≡ Ok x
-coded code (Ok y) x h = cc h
-coded code (Err place) x h = absurd (cc h)
+plain_absent : (o : Option Data) (policy : Policy) → o ≡ None → policy_in o ≡ Some policy → policy ≡ Plain
+plain_absent None policy none is = cc is
+plain_absent (Some d) policy none is = absurd (cc none)
 
--- the choices and the script among them
-choices_under : (d : Data) (flat : List FlatVertex) (m : Members) → members_of d flat ≡ Ok m
-    → (choices_of d ≡ Ok m.choices) × (script_in (cluster_of m.choices.settings) (get (codes "script") d) ≡ Ok m.script)
-choices_under d flat m h =
-    let c = ok_under (at_code 10 (choices_of d)) _ m h in
-    let s = ok_under (at_code 11 (script_in (cluster_of c.0.settings) (get (codes "script") d))) _ m c.2 in
-    let t = ok_under _ _ m s.2 in
-    let g = ok_under _ _ m t.2 in
-    let choices : c.0 ≡ m.choices = cc g.2 in
-    let script : s.0 ≡ m.script = cc g.2 in
-    (coded 10 (choices_of d) c.0 c.1 ∙ ap Ok choices, subst (λ x. script_in (cluster_of x.settings) (get (codes "script") d) ≡ Ok m.script) choices (coded 11 _ s.0 s.1 ∙ ap Ok script))
+empty_absent : (o : Option Data) (settings : SettingsForm) (script : List ScriptLine) → o ≡ None → script_in (cluster_of settings) o ≡ Ok script → script ≡ []
+empty_absent None settings script none is = cc is
+empty_absent (Some d) settings script none is = absurd (cc none)
 
-policy_with : (p : ℕ) (policy : Policy) (r : Result Settings ℕ) (c : Choices) → choices_with p policy r ≡ Ok c → c.policy ≡ policy
-policy_with p policy (Ok settings) c h = cc h
-policy_with p policy (Err place) c h = absurd (cc h)
+plain_choices : (d : Data) → get (codes "policy") d ≡ None → IfOk (choices_of d) (λ c. c.policy ≡ Plain)
+plain_choices d none =
+    in_wanted 0 (cluster_in (get (codes "cluster") d)) _ _ (λ cluster _. in_wanted 1 (parallelism_in (get (codes "parallelism") d)) _ _ (λ p _. in_wanted 2 (policy_in (get (codes "policy") d)) _ _ (λ policy is.
+    policy_with p policy (settings_of cluster (get (codes "settings") d)) (plain_absent (get (codes "policy") d) policy none is))))
 
-plain_without : (d : Data) (c : Choices) → get (codes "policy") d ≡ None → choices_of d ≡ Ok c → c.policy ≡ Plain
-plain_without d c none h =
-    let cluster = wanted_under 0 _ _ c h in
-    let p = wanted_under 1 _ _ c cluster.2 in
-    let policy = wanted_under 2 (policy_in (get (codes "policy") d)) _ c p.2 in
-    let plain : policy.0 ≡ Plain = cc (policy.1, ap policy_in none) in
-    policy_with p.0 policy.0 _ c policy.2 ∙ plain
+plain_members : (d : Data) (flat : List FlatVertex) → get (codes "policy") d ≡ None → IfOk (members_of d flat) (λ m. m.choices.policy ≡ Plain)
+plain_members d flat none =
+    by_cases (choices_of d) _ (λ c one. by_cases (script_in (cluster_of c.settings) (get (codes "script") d)) _ (λ script two. by_cases (schedule_in (get (codes "schedule") d)) _ (λ schedule three. by_cases (dag_in flat (get (codes "dag") d)) _ (λ dag four.
+    rw (one, two, three, four) (of_ok (choices_of d) (λ c. c.policy ≡ Plain) c (plain_choices d none) one))
+    (λ e four. rw (one, two, three, four) tt)) (λ e three. rw (one, two, three) tt)) (λ e two. rw (one, two) tt)) (λ e one. rw one tt)
 
-abbrev Lacks : Data → List (List ℕ) → Type 0
-Lacks d names = has_none_of names d ≡ true
+empty_members : (d : Data) (flat : List FlatVertex) → get (codes "script") d ≡ None → IfOk (members_of d flat) (λ m. m.script ≡ [])
+empty_members d flat none =
+    by_cases (choices_of d) _ (λ c one. by_cases (script_in (cluster_of c.settings) (get (codes "script") d)) _ (λ script two. by_cases (schedule_in (get (codes "schedule") d)) _ (λ schedule three. by_cases (dag_in flat (get (codes "dag") d)) _ (λ dag four.
+    rw (one, two, three, four) (empty_absent (get (codes "script") d) c.settings script none two))
+    (λ e four. rw (one, two, three, four) tt)) (λ e three. rw (one, two, three) tt)) (λ e two. rw (one, two) tt)) (λ e one. rw one tt)
 
-lacks_first : (d : Data) (name : List ℕ) (names : List (List ℕ)) → Lacks d (name ∷ names) → get name d ≡ None
-lacks_first d name names h = none_so (get name d) (first_so (is_none (get name d)) (has_none_of names d) h)
+plain_bundle : (d : Data) → get (codes "policy") d ≡ None → IfOk (bundle_of d) (λ b. b.policy ≡ Plain)
+plain_bundle d none =
+    in_ok (accepted_job d) _ _ (λ vs _. in_ok (counted vs) _ _ (λ _ _. in_ok (members_of d (flattened vs).vertices) _ _ (λ m is. of_ok _ (λ m. m.choices.policy ≡ Plain) m (plain_members d (flattened vs).vertices none) is)))
 
-lacks_more : (d : Data) (name : List ℕ) (names : List (List ℕ)) → Lacks d (name ∷ names) → Lacks d names
-lacks_more d name names h = second_so (is_none (get name d)) (has_none_of names d) h
+empty_bundle : (d : Data) → get (codes "script") d ≡ None → IfOk (bundle_of d) (λ b. b.script ≡ [])
+empty_bundle d none =
+    in_ok (accepted_job d) _ _ (λ vs _. in_ok (counted vs) _ _ (λ _ _. in_ok (members_of d (flattened vs).vertices) _ _ (λ m is. of_ok _ (λ m. m.script ≡ []) m (empty_members d (flattened vs).vertices none) is)))
 
-after_cluster : (d : Data) → Lacks d unserved_members → Lacks d (codes "policy" ∷ codes "settings" ∷ codes "script" ∷ codes "schedule" ∷ [])
-after_cluster d h = lacks_more d (codes "cluster") _ h
+-- what a bare bundle lacks
+lacks_policy : (g : Given) → is_bare g ≡ true → not g.policy ≡ true
+lacks_policy g h =
+    let settings = first_so (not g.cluster && not g.policy && not g.settings) (not g.script) (first_so (not g.cluster && not g.policy && not g.settings && not g.script) (not g.schedule) h) in
+    second_so (not g.cluster) (not g.policy) (first_so (not g.cluster && not g.policy) (not g.settings) settings)
 
-after_settings : (d : Data) → Lacks d unserved_members → Lacks d (codes "script" ∷ codes "schedule" ∷ [])
-after_settings d h = lacks_more d (codes "settings") _ (lacks_more d (codes "policy") _ (after_cluster d h))
+lacks_script : (g : Given) → is_bare g ≡ true → not g.script ≡ true
+lacks_script g h = second_so (not g.cluster && not g.policy && not g.settings) (not g.script) (first_so (not g.cluster && not g.policy && not g.settings && not g.script) (not g.schedule) h)
 
 -- its policy is the plain one, and its script is empty
-served_choices : (d : Data) (b : Bundle) → bundle_of d ≡ Ok b → Lacks d unserved_members → (b.policy ≡ Plain) × (b.script ≡ [])
-served_choices d b is lacks =
-    let m = members_under d b is in
-    let choices = choices_under d (flattened m.0).vertices m.1 m.2 in
-    let plain : m.1.choices.policy ≡ Plain = plain_without d m.1.choices (lacks_first d (codes "policy") _ (after_cluster d lacks)) choices.0 in
-    let none : get (codes "script") d ≡ None = lacks_first d (codes "script") _ (after_settings d lacks) in
-    let empty : m.1.script ≡ [] = cc (choices.1, ap (script_in (cluster_of m.1.choices.settings)) none) in
-    (sym (ap (λ x. x.policy) m.3) ∙ plain, sym (ap (λ x. x.script) m.3) ∙ empty)
+served_choices : (d : Data) (b : Bundle) → bundle_of d ≡ Ok b → is_bare (given_in d) ≡ true → (b.policy ≡ Plain) × (b.script ≡ [])
+served_choices d b is bare =
+    let policy : get (codes "policy") d ≡ None = none_so (get (codes "policy") d) (lacks_policy (given_in d) bare) in
+    let script : get (codes "script") d ≡ None = none_so (get (codes "script") d) (lacks_script (given_in d) bare) in
+    (of_ok (bundle_of d) (λ b. b.policy ≡ Plain) b (plain_bundle d policy) is, of_ok (bundle_of d) (λ b. b.script ≡ []) b (empty_bundle d script) is)
 
 ---- both
 
 -- a bundle that is served can be run
-pub served_runnable : (d : Data) (b : Bundle) → bundle_of d ≡ Ok b → is_served d b ≡ true → list_all has_fields b.job ≡ true → b.flat ≡ flattened b.job → (1 ≤ b.parallelism) × (b.parallelism ≤ 64) → AreInRange b.settings → IsRunnable b
-served_runnable d b is served filled flat tasks settings =
-    let built = served_chain d b served filled in
+pub served_runnable : (d : Data) (b : Bundle) → bundle_of d ≡ Ok b → is_served (given_in d) b ≡ true → list_all has_fields b.job ≡ true → b.flat ≡ flattened b.job → (1 ≤ b.parallelism) × (b.parallelism ≤ 64) → IsRunnable b
+served_runnable d b is served filled flat tasks =
+    let built = served_chain (given_in d) b served filled in
     let chain = flat ∙ chain_flattened b.job built in
-    let lacks = first_so (has_none_of unserved_members d) (is_chain b.job) (first_so (has_none_of unserved_members d && is_chain b.job) (is_single_if_any b.dag) served) in
-    let choices = served_choices d b is lacks in
+    let bare = first_so (is_bare (given_in d)) (is_chain b.job) (first_so (is_bare (given_in d) && is_chain b.job) (is_single_if_any b.dag) served) in
+    let choices = served_choices d b is bare in
     record {
       dag = record { some = tasks.0; few = tasks.1; line = λ _. chain_line b built chain; plain = λ _. choices.0 };
       chain = built;
       flat = chain;
-      uniform = served_uniform d b served;
-      settings = settings;
+      uniform = served_uniform (given_in d) b served;
       script = choices.1;
     }
 

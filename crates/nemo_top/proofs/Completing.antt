@@ -1,19 +1,21 @@
 -- From what a call answers to what it must answer.
-use Rattle.std.proofs.Common.{◌≡◌, ◌≢◌, ◌∙◌, ap, refl, sym, subst, ◌⊎◌, inl, inr, ℕ, ◌<◌, ◌≤◌, List, [], ◌∷◌, ◌++◌, length, true, Result, Ok, Err, Option, Some, None, IfSome, slice_get, append-nil, length-append, arith}
+use Rattle.std.proofs.Common.{◌≡◌, ◌∙◌, ap, refl, sym, subst, inl, inr, ℕ, ◌≤◌, List, [], ◌∷◌, ◌++◌, length, Result, Ok, Err, Option, Some, None, IfSome, slice_get, append-nil, length-append, arith, OnOk}
 use Rattle.std.specs.Io.KnownBytes.{Consumes, IsAtEnd}
 use Rattle.serde_json.specs.Data.{Data}
 use Rattle.nemo_bundle.specs.declared.bundle.Bundle.{Bundle}
 use Rattle.nemo_core.specs.declared.event.Event.{Event}
-use Rattle.nemo_io.specs.Faults.{Rose}
+use Rattle.nemo_io.specs.Faults.{HasCause, Rose}
 use Rattle.nemo_ir.specs.Flat.{FlatForm}
-use Rattle.nemo_ir.specs.Valid.{Clause, V1, V2, V3, V4, V5, V6, V7, V8, V9, Valid, Holds, FirstAmong, FirstFailure, clauses}
+use Rattle.nemo_ir.specs.declared.clause.Clause.{Clause}
+use Rattle.nemo_ir.specs.declared.clause.Clause.TheVariants.{V1, V2, V3, V4, V5, V6, V7, V8, V9}
+use Rattle.nemo_ir.specs.Valid.{Valid, Holds, FirstAmong, clauses}
 use Rattle.nemo_ir.specs.declared.dag.IrDag.{IrDag}
 use Rattle.nemo_job.specs.Sinks.{job_faults}
 use Rattle.nemo_transform.specs.Brought.{Arisen}
-use Rattle.nemo_top.specs.Answers.{Answers, Reads}
+use Rattle.nemo_top.specs.Answers.{Answers, EndsWith}
 use Rattle.nemo_top.specs.Bundles.{IsBundle, IsJson, bundle_for}
 use Rattle.nemo_top.specs.Calls.{Call, ReadWhole}
-use Rattle.nemo_top.specs.Complete.{Brings, Completes, Evaluates, IsDoneOrSpent}
+use Rattle.nemo_top.specs.Complete.{Brings, Completes, Evaluates}
 use Rattle.nemo_top.specs.Ends.{Ends, IsDone, ProposesWrong}
 use Rattle.nemo_top.specs.Words.{command_of}
 use Rattle.nemo_top.specs.declared.status.Status.{Status}
@@ -83,8 +85,8 @@ module _ (call : Call) (command : Command) (b : Bundle) (brings : Brings call.wo
       subst (λ x. Ends command x status log text) bundle (subst (λ c. Ends c e status log text) same h)
 
   pub of_reads : (status : Status) (log : List Event) (text : List ℕ) → ((log : List Event) (text : List ℕ) → Ends command b status log text → Completes command b status)
-      → (h : (other : Command) × (bytes : List ℕ) × (command_of call.words ≡ Some other) × ReadWhole call bytes × (e : Bundle) × IsBundle other bytes e × Ends other e status log text) → Completes command b status
-  of_reads status log text completes h = completes log text (ends_so status log text h.0 h.1 h.4 h.2 h.3 h.5 h.6)
+      → (h : (other : Command) × (bytes : List ℕ) × (command_of call.words ≡ Some other) × ReadWhole call bytes × EndsWith other bytes status log text) → Completes command b status
+  of_reads status log text completes h = completes log text (ends_so status log text h.0 h.1 h.4.0 h.2 h.3 h.4.1 h.4.2)
 
 ---- the status of each end
 
@@ -119,15 +121,22 @@ completes call command b Done log text brings well h = of_reads call command b b
 completes call command b Usage log text brings well h = cc (h.0, brings.asked)
 completes call command b ReadFault log text brings well h = absurd (well h.2.rose)
 completes call command b WriteFault log text brings well h = absurd h
-completes call command b NotJson log text brings well h = absurd (h.4 brings.bundle.0 (subst (λ xs. IsJson xs brings.bundle.0) (sym (bytes_are call command b brings h.1 h.3)) brings.bundle.1))
+completes call command b NotJson log text brings well h = absurd (h.4.0 brings.bundle.0 (subst (λ xs. IsJson xs brings.bundle.0) (sym (bytes_are call command b brings h.1 h.3)) brings.bundle.1))
 completes call command b TooLong log text brings well h =
     let part : length h.1 ≤ length brings.bytes = part_of brings.bytes h.1 call.after (subst (λ o. Consumes o call.after h.1) brings.told h.2.taken) in
     absurd (omega (arith, part, h.2.many, brings.few))
 completes call command b (BundleRefused code place) log text brings well h =
-    let given = value_gives call command b brings h.1 h.4.0 h.3 h.4.1 in
+    let refusal = h.4.0 in
+    let given = value_gives call command b brings h.1 refusal.0 h.3 refusal.1 in
     let same = one_command call.words h.0 command h.2 brings.asked in
-    let refused = subst (λ c. bundle_for c h.4.0 ≡ Err (record { code = code; place = place })) same h.4.2 in
+    let refused = subst (λ c. bundle_for c refusal.0 ≡ Err (record { code = code; place = place })) same refusal.2 in
     absurd (cc (given, refused))
 completes call command b (DagRefused clause index) log text brings well h = of_reads call command b brings (DagRefused clause index) log text (λ log text ends. absurd (proposes_right b clause index brings.valid ends.1)) h
 completes call command b (TransformFault name kind rec) log text brings well h = of_reads call command b brings (TransformFault name kind rec) log text (λ log text ends. faulty command b log text (record { vertex = name; kind = kind; rec = rec }) ends) h
 completes call command b NoMemory log text brings well h = spent command b
+
+-- and still is, once no write fails
+pub written_completes : {T E : Type 0} (call : Call) (command : Command) (b : Bundle) (reached status : Status) (log : List Event) (text : List ℕ) (before after : ℕ) (r : Result T E) → Answers call reached log text → OnOk r (status ≡ reached)
+    → HasCause before after r → Brings call.words call.before command b → ¬ Rose call.faults_before call.faults_after → ¬ Rose before after → Completes command b status
+written_completes call command b reached status log text before after (Ok t) h kept cause brings read written = subst (Completes command b) (sym kept) (completes call command b reached log text brings read h)
+written_completes call command b reached status log text before after (Err e) h kept cause brings read written = absurd (written cause)

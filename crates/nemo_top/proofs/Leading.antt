@@ -1,5 +1,5 @@
 -- From what a command does with a bundle to what bytes lead to.
-use Rattle.std.proofs.Common.{◌≡◌, refl, sym, subst, ◌∙◌, ℕ, List, [], ◌++◌, true, Result, Ok, Err, Some, slice_get}
+use Rattle.std.proofs.Common.{◌≡◌, refl, sym, subst, ◌∙◌, ap, ℕ, List, [], ◌++◌, true, Result, Ok, Err}
 use Rattle.std.specs.Result.{IsErrAnd}
 use Rattle.serde_json.specs.Data.{Data}
 use Rattle.nemo_bundle.specs.Answers.{Gives, Refusal, on_ok}
@@ -16,8 +16,6 @@ use Rattle.nemo_job.specs.declared.evaluate.JobEnd.{JobEnd}
 use Rattle.nemo_job.specs.declared.evaluate.JobEnd.TheVariants as job
 use Rattle.nemo_job.specs.declared.vertex.JobVertex.{JobVertex}
 use Rattle.nemo_report.specs.Texts.{sinks_lines, text_of}
-use Rattle.nemo_value.specs.declared.expr.Kind.{Kind}
-use Rattle.nemo_transform.specs.Gives.{Row}
 use Rattle.nemo_top.specs.Answers.{Leads}
 use Rattle.nemo_top.specs.Bundles.{IsBundle, IsJson, bundle_for}
 use Rattle.nemo_top.specs.Ends.{Ends, looks_at_dag}
@@ -29,7 +27,7 @@ use Rattle.nemo_top.specs.declared.reached.Reached.{Reached}
 use Rattle.nemo_top.specs.declared.status.Status.{Status}
 use Rattle.nemo_top.specs.declared.status.Status.TheVariants.{Done, Usage, ReadFault, WriteFault, NotJson, TooLong, BundleRefused, DagRefused, TransformFault, NoMemory}
 use Rattle.nemo_top.specs.declared.word.Command.{Command}
-use Rattle.nemo_top.specs.declared.word.Command.TheVariants.{Eval, Check, Solo}
+use Rattle.nemo_top.specs.declared.word.Command.TheVariants.{Eval}
 
 -- a status stands alone with its text
 pub is_alone : (status : Status) → Alone status [] (status_text status)
@@ -113,4 +111,10 @@ fault_leads d vs end given h bytes json = job_leads d vs (of_job end) [] (status
 pub rows_lead : (d : Data) (vs : List JobVertex) (text : List ℕ) → job_in d ≡ Ok vs → job_faults vs ≡ [] → text ≡ text_of (sinks_lines (job_rows vs) ++ last_lines Done)
     → (bytes : List ℕ) → IsJson bytes d → Leads Eval bytes Done [] text
 rows_lead d vs text given faultless is bytes json =
-    job_leads d vs Done [] text given (λ b same. subst (λ xs. ((job_faults xs ≡ []) × ([] ≡ [])) × (text ≡ text_of (sinks_lines (job_rows xs) ++ last_lines Done))) (sym same) ((faultless, refl), is)) bytes json
+    job_leads d vs Done [] text given (λ b same. ((ap job_faults same ∙ faultless, refl), is ∙ ap (λ xs. text_of (sinks_lines (job_rows xs) ++ last_lines Done)) (sym same))) bytes json
+
+-- as they are reached
+pub rows_done : (d : Data) (vs : List JobVertex) (status : Status) (log : List Event) (text : List ℕ) → status ≡ Done → log ≡ [] → job_in d ≡ Ok vs → job_faults vs ≡ [] → text ≡ text_of (sinks_lines (job_rows vs) ++ last_lines Done)
+    → (bytes : List ℕ) → IsJson bytes d → Leads Eval bytes status log text
+rows_done d vs status log text is empty given faultless same bytes json =
+    subst (λ s. Leads Eval bytes s log text) (sym is) (subst (λ es. Leads Eval bytes Done es text) (sym empty) (rows_lead d vs text given faultless same bytes json))

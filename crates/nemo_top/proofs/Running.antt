@@ -1,18 +1,15 @@
 -- The run of a bundle.
-use Rattle.std.proofs.Common.{◌≡◌, ◌∙◌, ap, sym, subst, List, [], ◌++◌, true, Result, Ok, Err, IfOk}
-use Rattle.nemo_base.specs.declared.script.ScriptLine.{ScriptLine}
-use Rattle.nemo_bundle.specs.Choices.{AreInRange}
+use Rattle.std.proofs.Common.{◌≡◌, ◌∙◌, ap, sym, subst, List, [], true, IfSome, Result, Ok, Err, IfOk}
 use Rattle.nemo_bundle.specs.declared.bundle.Bundle.{Bundle}
-use Rattle.nemo_base.specs.declared.settings.Settings.{Settings}
 use Rattle.nemo_core.specs.declared.event.Event.{Event}
 use Rattle.nemo_flat.proofs.ChainValue.{keeps_faults, keeps_none, keeps_rows}
-use Rattle.nemo_flat.specs.Flat.{IsChainForm, flat_of}
-use Rattle.nemo_ir.specs.Meaning.{flat_rows}
+use Rattle.nemo_ir.specs.Line.{IsLine}
+use Rattle.nemo_ir.specs.Meaning.{flat_faults, flat_rows}
+use Rattle.nemo_ir.specs.Uniform.{is_uniform}
 use Rattle.nemo_ir.specs.Valid.{Valid}
-use Rattle.nemo_ir.specs.Flat.{FlatForm}
 use Rattle.nemo_ir.specs.declared.dag.IrDag.{IrDag}
 use Rattle.nemo_job.specs.Sinks.{job_rows}
-use Rattle.nemo_laws.specs.Done.{IsDoneRun, IsRange}
+use Rattle.nemo_laws.specs.Done.{IsDoneRun}
 use Rattle.nemo_laws.specs.Solo.{solo_log, tasks_in}
 use Rattle.nemo_laws.specs.Written.{written}
 use Rattle.nemo_plan.specs.Form.{PlanForm}
@@ -23,16 +20,22 @@ use Rattle.nemo_value.specs.declared.record.SinkRows.{SinkRows}
 use Rattle.nemo_top.specs.Bundles.{dag_of, plan_of}
 use Rattle.nemo_top.specs.Ends.{IsSoloDone}
 use Rattle.nemo_top.specs.Served.{IsRunnable}
+use Rattle.nemo_top.proofs.Chains.{chain_line}
 
--- the flat job of a chain
-pub chain_form : (b : Bundle) → IsRunnable b → IsChainForm b.flat
-chain_form b runs = (b.job, runs.chain, runs.flat)
-
+-- its ports are all Main
 pub main_ports : (b : Bundle) → IsRunnable b → HasMainPorts b.flat
 main_ports b runs = subst HasMainPorts (sym runs.flat) (chain_main b.job runs.chain)
 
-pub in_range : (k : Settings) → AreInRange k → IsRange k
-in_range k r = record { reserved = r.reserved; slots = r.slots; bound = r.loss_bound.0 }
+-- no fault reaches a sink of it
+faultless_form : (b : Bundle) → IsRunnable b → flat_faults b.flat ≡ []
+faultless_form b runs = ap flat_faults runs.flat ∙ keeps_none b.job runs.chain
+
+-- nor in its plan, whose flat job is a line
+pub faultless_plan : (b : Bundle) (dag : IrDag) (p : PlanForm) → IsRunnable b → p ≡ record { flat = b.flat; dag = dag } → flat_faults p.flat ≡ []
+faultless_plan b dag p runs is = ap (λ p. flat_faults p.flat) is ∙ faultless_form b runs
+
+pub line_plan : (b : Bundle) (dag : IrDag) (p : PlanForm) → IsRunnable b → p ≡ record { flat = b.flat; dag = dag } → IsLine p.flat
+line_plan b dag p runs is = subst (λ p. IsLine p.flat) (sym is) (chain_line b runs.chain runs.flat)
 
 -- its sinks get what the job gives them
 pub same_rows : (b : Bundle) → IsRunnable b → flat_rows b.flat ≡ job_rows b.job
@@ -61,3 +64,9 @@ module _ {E : Type 0} (b : Bundle) (dag : IrDag) (p : PlanForm) (runs : IsRunnab
   pub ran_rows : (r : Result RunEnd E) → IfOk r (λ end. end.sinks ≡ flat_rows p.flat) → IfOk r (λ end. end.sinks ≡ job_rows b.job)
   ran_rows (Ok end) rows = subst (λ p. end.sinks ≡ flat_rows p.flat) is rows ∙ same_rows b runs
   ran_rows (Err e) rows = tt
+
+---- on the way
+
+-- its DAG is uniform
+pub uniform_dag : (b : Bundle) (dag : IrDag) → IsRunnable b → (HasMainPorts b.flat → IfSome b.dag (λ dag. is_uniform dag ≡ true) → is_uniform dag ≡ true) → is_uniform dag ≡ true
+uniform_dag b dag runs h = h (main_ports b runs) runs.uniform

@@ -1,5 +1,5 @@
 -- The bundle of a call, its DAG and its plan.
-use Rattle.std.specs.Prelude.{◌≡◌, ℕ, List, Option, Some, unwrap_or, IsUtf8, Result, Ok, Err}
+use Rattle.std.specs.Prelude.{◌≡◌, ℕ, List, Some, unwrap_or, IsUtf8, Result, Ok, Err}
 use Rattle.serde_json.specs.Data.{Data}
 use Rattle.serde_json.specs.Read.{read}
 use Rattle.nemo_base.specs.declared.annotation.Policy.{Policy}

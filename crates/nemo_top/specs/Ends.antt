@@ -1,5 +1,5 @@
 -- How a command ends with a bundle: its status, with the history and the text.
-use Rattle.std.specs.Prelude.{◌≡◌, ℕ, List, [], ◌∷◌, ◌++◌, length, Bool, true, false, Option, Some, slice_get}
+use Rattle.std.specs.Prelude.{◌≡◌, ℕ, List, [], ◌∷◌, ◌++◌, length, Bool, true, false, Some, slice_get}
 use Rattle.nemo_bundle.specs.declared.bundle.Bundle.{Bundle}
 use Rattle.nemo_core.specs.declared.event.Event.{Event}
 use Rattle.nemo_ir.specs.Valid.{Valid, FirstFailure}

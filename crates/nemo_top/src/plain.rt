@@ -1,4 +1,4 @@
-ghost use Rattle.std.specs.Prelude.{◌≡◌, ◌≢◌, ℕ, List};
+ghost use Rattle.std.specs.Prelude.{◌≡◌, ◌≢◌, ℕ, List, OnOk, OnErr};
 ghost use Rattle.std.specs.Io.KnownBytes.{Appends};
 ghost use Rattle.nemo_bundle.specs.declared.bundle.Bundle.{Bundle};
 ghost use Rattle.nemo_io.specs.Faults.{Rose};
@@ -44,9 +44,18 @@ pub fn nemo_plain<S: Source, K: Sink>(
         → ¬ Rose (S.faults source.old) (S.faults source.new) → ¬ Rose (K.faults sink.old) (K.faults sink.new) → Completes command bundle result.status }
 {
     let Reached { status, log, text } = reach(alloc, words, source);
-    let status = match write_all(sink, text.as_slice()) {
-        Ok(()) => status,
-        Err(Failed) => Status::WriteFault,
-    };
+    let written = write_all(sink, text.as_slice());
+    let status = status_after(written, status);
     Ended { status, log }
+}
+
+/// The status of a call whose text was written so: the one that it reached, and else WriteFault.
+fn status_after(written: Result<(), Failed>, reached: Status) -> Status
+    ensures kept { OnOk written (result ≡ reached) }
+    ensures fault { OnErr written (result ≡ Status.WriteFault) }
+{
+    match written {
+        Ok(()) => reached,
+        Err(Failed) => Status::WriteFault,
+    }
 }

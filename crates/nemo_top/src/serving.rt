@@ -1,6 +1,5 @@
-ghost use Rattle.std.specs.Prelude.{◌≡◌, is_none, IfOk};
+ghost use Rattle.std.specs.Prelude.{◌≡◌, IfOk};
 ghost use Rattle.std.specs.List.{list_all};
-ghost use Rattle.serde_json.specs.Find.{get};
 ghost use Rattle.serde_json.specs.View.{view};
 ghost use Rattle.nemo_bundle.specs.Answers.{Gives};
 ghost use Rattle.nemo_bundle.specs.Read.{bundle_of};
@@ -10,10 +9,9 @@ ghost use Rattle.nemo_top.specs.Served.{HasDag, IsRunnable};
 ghost use Rattle.nemo_top.specs.Served as spec;
 
 use nemo_base::{Class, Flow, Keep, Pattern};
-use nemo_bundle::{Bundle, BundleEnd, read_bundle};
+use nemo_bundle::{Bundle, BundleEnd, Given, read_bundle};
 use nemo_ir::{IrDag, IrEdge, IrVertex, VertexKind};
 use nemo_job::is_chain;
-use nemo_value::NoMemory;
 use serde_json::Value;
 use std::alloc::Global;
 
@@ -23,9 +21,6 @@ const UNSERVED: BundleEnd = BundleEnd::Refused { code: 90, place: 0 };
 /// The last of the codes that they tell.
 const VERTEX_SHAPE: u32 = 2;
 
-/// The members that their bundles may not have.
-const UNSERVED_MEMBERS: [&str; 5] = ["cluster", "policy", "settings", "script", "schedule"];
-
 /// The bundle that a value stands for, where `check` and `solo` serve it: its job is a chain, and a DAG that it proposes
 /// has Ops of one task. What has another refusal than codes 1 and 2 isn't served.
 pub(crate) fn read_served(alloc: Global, value: Value) -> Result<Bundle, BundleEnd>
@@ -33,11 +28,13 @@ pub(crate) fn read_served(alloc: Global, value: Value) -> Result<Bundle, BundleE
     ensures runnable { IfOk result IsRunnable }
 {
     match read_bundle(alloc, &value) {
-        Ok(bundle) => match is_served(alloc, &value, &bundle) {
-            Ok(true) => Ok(bundle),
-            Ok(false) => Err(UNSERVED),
-            Err(NoMemory) => Err(BundleEnd::NoMemory),
-        },
+        Ok(bundle) => {
+            if is_served(Given::of(&value), &bundle) {
+                Ok(bundle)
+            } else {
+                Err(UNSERVED)
+            }
+        }
         Err(BundleEnd::Refused { code, place }) => Err(narrowed(code, place)),
         Err(BundleEnd::NoMemory) => Err(BundleEnd::NoMemory),
     }
@@ -59,33 +56,34 @@ pub(crate) fn read_checked(alloc: Global, value: Value) -> Result<Bundle, Bundle
     ensures bundle { Gives result (spec.checked (view value) (bundle_of (view value))) }
     ensures dag { IfOk result HasDag }
 {
-    if value.get("dag").is_some() {
+    if Given::of(&value).dag {
         read_bundle(alloc, &value)
     } else {
         read_served(alloc, value)
     }
 }
 
-fn is_served(alloc: Global, value: &Value, bundle: &Bundle) -> Result<bool, NoMemory>
-    ensures { IfOk result (λ served. served ≡ spec.is_served (view value.now) bundle.now) }
+/// Whether a bundle with these members is one of those.
+fn is_served(given: Given, bundle: &Bundle) -> bool
+    ensures { result ≡ spec.is_served given bundle.now }
 {
-    if !has_none_of(value, &UNSERVED_MEMBERS) {
-        return Ok(false);
-    }
-    if !is_chain(alloc, bundle.job.vertices().as_slice())? {
-        return Ok(false);
-    }
-    match &bundle.dag {
-        Some(dag) => Ok(is_single(dag)),
-        None => Ok(true),
-    }
+    is_bare(given) && is_chain(&bundle.job) && is_single_if_any(&bundle.dag)
 }
 
-/// Whether no member has one of the names.
-fn has_none_of(value: &Value, names: &[&str]) -> bool
-    ensures { result ≡ list_all (λ name. is_none (get name.now (view value.now))) names.now }
+/// Whether no member but `dag` and `parallelism` says how the job is run.
+fn is_bare(given: Given) -> bool
+    ensures { result ≡ spec.is_bare given }
 {
-    names.iter().all(|name| value.get(*name).is_none())
+    !given.cluster && !given.policy && !given.settings && !given.script && !given.schedule
+}
+
+fn is_single_if_any(dag: &Option<IrDag>) -> bool
+    ensures { result ≡ spec.is_single_if_any dag.now }
+{
+    match dag {
+        Some(dag) => is_single(dag),
+        None => true,
+    }
 }
 
 /// Whether a DAG has Ops of one task on transient machines, each fed task by task by blocks that are fetched and kept.

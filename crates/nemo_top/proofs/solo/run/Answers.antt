@@ -1,5 +1,5 @@
 use Rattle.nemo_top.proofs.Chains.{chain_line}
-use Rattle.nemo_top.proofs.Running.{ran, ran_rows}
+use Rattle.nemo_top.proofs.Running.{faultless_plan, line_plan, ran, ran_rows}
 use Rattle.nemo_top.proofs.solo.run.Goals as goal
 
 pub new-requires-clause-line : goal.new-requires-clause-line
@@ -12,3 +12,9 @@ returns-clause-done c =
 
 pub returns-clause-sinks : goal.returns-clause-sinks
 returns-clause-sinks c = ran_rows c.args.bundle c.args.dag _ c.requires.bundle c.requires.dag c.requires.valid c.in_ok-plan.ensures.plan c.solo.result c.solo.ensures.sinks
+
+pub solo-requires-clause-line : goal.solo-requires-clause-line
+solo-requires-clause-line c = line_plan c.args.bundle c.args.dag _ c.requires.bundle c.in_ok-plan.ensures.plan
+
+pub solo-requires-clause-faultless : goal.solo-requires-clause-faultless
+solo-requires-clause-faultless c = faultless_plan c.args.bundle c.args.dag _ c.requires.bundle c.in_ok-plan.ensures.plan
