@@ -1,5 +1,5 @@
 -- The body of a vertex is less deep than the vertex, so that its depth is enough to read it.
-use Rattle.std.proofs.Common.{◌≡◌, refl, sym, ap, ◌∙◌, ℕ, ℤ, zero, suc, ◌+◌, ◌≤◌, max, List, length, Option, Some, None, option_map, option_and_then, Bool, true, false, if◌then◌else◌, Result, Ok, Err, Ordering, Less, Equal, Greater, codes, arith}
+use Rattle.std.proofs.Common.{◌≡◌, refl, sym, ap, ◌∙◌, ℕ, ℤ, zero, suc, ◌+◌, ◌≤◌, List, length, Option, Some, None, option_map, option_and_then, Bool, true, false, if◌then◌else◌, Result, Ok, Err, Ordering, Less, Equal, Greater, codes, arith}
 use Rattle.std.specs.Ordering.{nat_cmp, match_ordering}
 use Rattle.std.specs.Cmp.Lexicographic.{slice_cmp}
 use Rattle.serde_json.specs.Data.{Data, null, boolean, number, string, array, object, Items, no_items, item, Members, no_members, member, depth, items_depth, members_depth}

@@ -1,8 +1,8 @@
 -- The lines that are read are a script of the settings.
-use Rattle.std.proofs.Common.{◌≡◌, refl, subst, ℕ, ◌+◌, ◌<◌, ◌≤◌, ◌&&◌, nat_le, nat_lt, if◌then◌else◌, List, Option, Some, None, option_map, option_and_then, IfSome, Bool, true, false, Result, Ok, Err, IfOk, codes}
+use Rattle.std.proofs.Common.{◌≡◌, refl, subst, ℕ, ◌+◌, ◌≤◌, ◌&&◌, nat_le, nat_lt, if◌then◌else◌, List, Option, Some, None, option_map, option_and_then, IfSome, Bool, true, false, Result, Ok, Err, IfOk, codes}
 use Rattle.std.proofs.lemmas.Bool.{leb-true, ltb-true}
 use Rattle.std.specs.Cmp.{first_so, second_so}
-use Rattle.serde_json.specs.Data.{Data, Items, no_items, item}
+use Rattle.serde_json.specs.Data.{Items, no_items, item}
 use Rattle.serde_json.specs.Find.{as_array, as_str}
 use Rattle.nemo_base.specs.Script.{IsAction, IsScript, IsScriptFrom, IsTransient}
 use Rattle.nemo_base.specs.Settings.{SettingsForm}

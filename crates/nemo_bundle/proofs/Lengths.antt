@@ -1,5 +1,5 @@
 -- Arrays of a length that no form has.
-use Rattle.std.proofs.Common.{◌≡◌, refl, ℕ, [], ◌∷◌, List, length, Option, None, ◌<◌, arith}
+use Rattle.std.proofs.Common.{◌≡◌, refl, ℕ, [], ◌∷◌, List, length, None, ◌<◌, arith}
 use Rattle.serde_json.specs.declared.value.Value.{Value}
 use Rattle.serde_json.specs.View.{items_view}
 use Rattle.nemo_ir.specs.declared.flat.FlatVertex.{FlatVertex}
