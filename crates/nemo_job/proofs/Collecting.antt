@@ -7,7 +7,7 @@ use Rattle.std.proofs.Math.Seq.{drop-cons}
 use Rattle.std.proofs.lemmas.Slice.Zip.{length-zip, get_or-zip}
 use Rattle.std.proofs.lemmas.List.{append-nil, get_or-map, length-map}
 use Rattle.std.proofs.lemmas.Option.{slice_get-map}
-use Rattle.std.specs.Cow.{cow_slice_items}
+use Rattle.nemo_job.specs.HeldRows.{rows_held}
 use Rattle.nemo_value.specs.Order.{record_cmp}
 use Rattle.nemo_value.specs.Sorting.{sorted}
 use Rattle.nemo_value.specs.declared.record.SinkRows.{SinkRows}
@@ -163,11 +163,11 @@ module _ (nodes : List Node) (held : List Held) (i : ℕ) (node : Node) (given :
   valued = subst (λ n. i < n) (sym (valued_all (map node_of nodes))) low
 
   -- one vertex more
-  pub collected_added : (sinks more : List SinkRows) (first least : Option (Arisen ℕ)) → more ≡ sinks ++ map with_sorted (option_to_list (sink_at node.transform.now (cow_slice_items given.rows)))
+  pub collected_added : (sinks more : List SinkRows) (first least : Option (Arisen ℕ)) → more ≡ sinks ++ map with_sorted (option_to_list (sink_at node.transform.now (rows_held given.rows)))
       → least ≡ lesser place_cmp first (cond (does_sink node.transform.now) (option_map arisen_at given.first) None)
       → SoFar (map node_of nodes) (values (map node_of nodes)) i sinks first → SoFar (map node_of nodes) (values (map node_of nodes)) (i + 1) more least
   collected_added sinks more first least put lower before =
-      so_far_added (map node_of nodes) (values (map node_of nodes)) i (node_of node) low valued placed_is sinks more first (option_map arisen_at given.first) least (cow_slice_items given.rows)
+      so_far_added (map node_of nodes) (values (map node_of nodes)) i (node_of node) low valued placed_is sinks more first (option_map arisen_at given.first) least (rows_held given.rows)
       (given_is nodes (values (map node_of nodes)) held i node given so here.0 here.1 here.2 here.3) put lower before
 
 pub collected_all : (nodes : List Node) (held : List Held) (i : ℕ) (sinks : List SinkRows) (first : Option (Arisen ℕ)) → IsGiven (map node_of nodes) (values (map node_of nodes)) (map known held) → i ≡ length (zip nodes held) → SoFar (map node_of nodes) (values (map node_of nodes)) i sinks first

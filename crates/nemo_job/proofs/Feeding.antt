@@ -7,7 +7,7 @@ use Rattle.std.proofs.lemmas.Grind.{flat_map-append}
 use Rattle.std.proofs.lemmas.List.{get_or-map, take_more, append-nil}
 use Rattle.std.proofs.lemmas.List.Folds.{flat_map-map}
 use Rattle.std.proofs.lemmas.Option.{slice_get-map, slice_get_read}
-use Rattle.std.specs.Cow.{cow_slice_items}
+use Rattle.nemo_job.specs.HeldRows.{rows_held}
 use Rattle.nemo_transform.specs.Brought.{port, all_rows, all_faults, nothing}
 use Rattle.nemo_transform.specs.Gives.{Row, is_filled}
 use Rattle.nemo_job.specs.ByPlace.{ByPlace, first_fault}
@@ -60,7 +60,7 @@ passed_more vals held inputs i h first more copy feeds within low is same least 
     ∙ sym (ap first_fault (brought_more (λ f. f.faults) vals inputs i low))
 
 -- the rows that the inputs bring, with one input more
-pub joined_more : (vals : List ByPlace) (held : List Held) (inputs : List ℕ) (i : ℕ) (h : Held) (rows more copies : List Row) → Feeds vals (map known held) inputs → All (λ j. j < length held) inputs → i < length inputs → h ≡ get_or held (get_or inputs i 0) h → copies ≡ cow_slice_items h.rows → more ≡ rows ++ copies
+pub joined_more : (vals : List ByPlace) (held : List Held) (inputs : List ℕ) (i : ℕ) (h : Held) (rows more copies : List Row) → Feeds vals (map known held) inputs → All (λ j. j < length held) inputs → i < length inputs → h ≡ get_or held (get_or inputs i 0) h → copies ≡ rows_held h.rows → more ≡ rows ++ copies
     → rows ≡ all_rows (map (port vals) (take i inputs)) → more ≡ all_rows (map (port vals) (take (i + 1) inputs))
 joined_more vals held inputs i h rows more copies feeds within low is same put so =
     let here : copies ≡ (port vals (get_or inputs i 0)).rows = same ∙ ap (λ k. k.rows) (fed vals held inputs i h feeds within low is) in
@@ -68,7 +68,7 @@ joined_more vals held inputs i h rows more copies feeds within low is same put s
     ∙ sym (brought_more (λ f. f.rows) vals inputs i low)
 
 -- the rows of the port of a number
-pub rows_of_port : (vals : List ByPlace) (held : List Held) (inputs : List ℕ) (i : ℕ) (h : Held) → Feeds vals (map known held) inputs → All (λ j. j < length held) inputs → i < length inputs → h ≡ get_or held (get_or inputs i 0) h → cow_slice_items h.rows ≡ (port (map (port vals) inputs) i).rows
+pub rows_of_port : (vals : List ByPlace) (held : List Held) (inputs : List ℕ) (i : ℕ) (h : Held) → Feeds vals (map known held) inputs → All (λ j. j < length held) inputs → i < length inputs → h ≡ get_or held (get_or inputs i 0) h → rows_held h.rows ≡ (port (map (port vals) inputs) i).rows
 rows_of_port vals held inputs i h feeds within low is =
     ap (λ k. k.rows) (fed vals held inputs i h feeds within low is)
     ∙ sym (ap (λ f. f.rows) (get_or-map (port vals) inputs i 0 nothing low))

@@ -1,6 +1,6 @@
 -- What an evaluation holds of what its vertices gave.
 use Rattle.std.specs.Prelude.{◌≡◌, ◌≤◌, ◌<◌, ◌⊎◌, ℕ, List, [], ◌∷◌, ◌++◌, length, map, slice_get, Option, Some, None, option_map, option_to_list, true, if◌then◌else◌}
-use Rattle.std.specs.Cow.{cow_slice_items}
+use Rattle.nemo_job.specs.HeldRows.{rows_held}
 use Rattle.std.specs.Ordering.{is_lt}
 use Rattle.std.specs.declared.cmp.Ordering.{Ordering}
 use Rattle.nemo_transform.specs.Brought.{Arisen, port, at, first_rows, second_rows}
@@ -29,7 +29,7 @@ pub record Known : Type 0 where
   pub first : Option (Arisen ℕ)
 
 abbrev pub known : Held → Known
-known h = record { rows = cow_slice_items h.rows; first = option_map arisen_at h.first }
+known h = record { rows = rows_held h.rows; first = option_map arisen_at h.first }
 
 abbrev pub known_value : ByPlace → Known
 known_value f = record { rows = f.rows; first = first_fault f.faults }

@@ -5,6 +5,7 @@ pub mod ChainRows
 pub mod Ends
 pub mod Fitting
 pub mod Held
+pub mod HeldRows
 pub mod Mean
 pub mod NamesBound
 pub mod Nodes

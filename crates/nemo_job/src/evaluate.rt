@@ -1,5 +1,5 @@
 ghost use Rattle.std.specs.Prelude.{◌≡◌, ◌<◌, ◌≤◌, ◌+◌, [], ◌++◌, if◌then◌else◌, None, length, map, option_map, option_to_list, true, IfOk, IfErr, OnOk};
-ghost use Rattle.std.specs.Cow.{cow_slice_items};
+ghost use Rattle.nemo_job.specs.HeldRows.{rows_held};
 ghost use Rattle.nemo_value.specs.Order.{record_cmp};
 ghost use Rattle.nemo_value.specs.Sorting.{sorted};
 ghost use Rattle.nemo_value.specs.Texts.{all_new};
@@ -14,14 +14,15 @@ ghost use Rattle.nemo_value.specs.SinkOrder.{by_name, with_sorted};
 ghost use Rattle.nemo_job.specs.Unrolled.{path_in};
 
 use crate::copies::Node;
-use crate::held::{Held, Located, earlier, nothing, step};
+use crate::held::{Held, Located, Rows, earlier, nothing, step};
 use crate::job::Job;
 use crate::readers::last_readers;
 use crate::unrolling::unroll;
 use nemo_transform::Transform;
-use nemo_value::{Kind, List, Name, NoMemory, Record, SinkRows, Text, TryCopy, sort_records};
+use nemo_value::{
+    Kind, List, Name, NoMemory, Record, SinkRows, Text, TryCopy, records_of, sorted_rows,
+};
 use std::alloc::Global;
-use std::borrow::CowSlice;
 
 /// Why a job has no rows: its first fault by the vertex where it arose, which is named by its path, and then by kind
 /// and record; or want of memory.
@@ -138,7 +139,7 @@ struct Ending {
 impl Ending {
     /// What a vertex gave, if it is a sink.
     fn add(&mut self, alloc: Global, transform: &Transform, given: Held<'_>) -> Result<(), NoMemory>
-        ensures sinks { OnOk result (self.new.sinks.items ≡ self.old.sinks.items ++ map with_sorted (option_to_list (sink_at transform.now (cow_slice_items given.entry.rows)))) }
+        ensures sinks { OnOk result (self.new.sinks.items ≡ self.old.sinks.items ++ map with_sorted (option_to_list (sink_at transform.now (rows_held given.entry.rows)))) }
         ensures first { OnOk result (option_map arisen_at self.new.first ≡ lesser place_cmp (option_map arisen_at self.old.first) (if does_sink transform.now then option_map arisen_at given.entry.first else None)) }
     {
         if let Transform::Sink { name } = transform {
@@ -168,16 +169,22 @@ fn collected(alloc: Global, nodes: &[Node<'_>], held: Vec<Held<'_>>) -> Result<E
 }
 
 /// What a sink of a name got, its rows in order.
-fn sink_rows(alloc: Global, name: &Name, rows: CowSlice<'_, Record>) -> Result<SinkRows, NoMemory>
+fn sink_rows(alloc: Global, name: &Name, rows: Rows<'_>) -> Result<SinkRows, NoMemory>
     ensures name { IfOk result (λ sink. sink.name ≡ name.now) }
-    ensures rows { IfOk result (λ sink. sink.rows ≡ sorted record_cmp (cow_slice_items rows.entry)) }
+    ensures rows { IfOk result (λ sink. sink.rows ≡ sorted record_cmp (rows_held rows.entry)) }
 {
-    let rows = match rows {
-        CowSlice::Owned(rows) => List::from_vec(rows),
-        CowSlice::Borrowed(rows) => List::from_slice(alloc, rows)?,
-    };
+    let name = name.copy(alloc)?;
     Ok(SinkRows {
-        name: name.copy(alloc)?,
-        rows: sort_records(alloc, rows)?,
+        name,
+        rows: records_in_order(alloc, &rows)?,
     })
+}
+
+/// The rows in order, as records.
+fn records_in_order(alloc: Global, rows: &Rows<'_>) -> Result<List<Record>, NoMemory>
+    ensures { IfOk result (λ records. records ≡ sorted record_cmp (rows_held rows.now)) }
+{
+    let rows = rows.lend(alloc)?;
+    let ordered = sorted_rows(alloc, rows)?;
+    records_of(alloc, ordered.as_slice())
 }

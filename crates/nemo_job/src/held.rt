@@ -1,5 +1,5 @@
-ghost use Rattle.std.specs.Prelude.{◌≡◌, ◌<◌, ◌≤◌, ℕ, List as Sequence, [], ◌∷◌, All, Option, length, map, option_map, slice_get, Some, None, IfOk, IfSome, OnOk, IsTrue};
-ghost use Rattle.std.specs.Cow.{cow_slice_items};
+ghost use Rattle.std.specs.Prelude.{◌≡◌, ◌<◌, ◌≤◌, ℕ, List as Sequence, [], ◌∷◌, All, Option, length, map, option_map, slice_get, Some, None, IfOk, OnOk, IsTrue};
+ghost use Rattle.nemo_job.specs.HeldRows.{rows_held};
 ghost use Rattle.nemo_transform.specs.Brought.{port, all_rows, all_faults, arisen, blocking};
 ghost use Rattle.nemo_transform.specs.Gives.{answers, is_filled, own_faults, rows_in};
 ghost use Rattle.nemo_transform.specs.Ports.{kinds_of};
@@ -9,10 +9,9 @@ ghost use Rattle.nemo_transform.specs.ArisenOrder.{place_cmp};
 ghost use Rattle.nemo_job.specs.Held.{Feeds, IsReleased, answers_at, answers_on, arisen_at, known, known_value, lesser, node_of, value_at};
 
 use crate::copies::Node;
-use nemo_transform::{Applied, Fault, Transform, apply, apply_owned, ports};
-use nemo_value::{Kind, List, NoMemory, Record, TryCopy};
+use nemo_transform::{Fault, Given, Transform, ports, transformed};
+use nemo_value::{Kind, List, NoMemory, Record, Row, Table, TryCopy, rows_of};
 use std::alloc::Global;
-use std::borrow::CowSlice;
 
 /// A fault, with the place of the vertex where it arose. Faults are ordered by place, kind and record.
 #[derive(PartialEq, Eq, PartialOrd, Ord, Drop)]
@@ -22,20 +21,53 @@ pub(crate) struct Located {
     pub(crate) rec: Record,
 }
 
-/// What a vertex gave: its rows, which may be lent by the job, and the first of the faults that come with them.
+/// The rows that a vertex gave: records that are lent by the job, or rows that were made.
+#[derive(Drop)]
+pub(crate) enum Rows<'a> {
+    Lent(&'a [Record]),
+    Made(Table),
+}
+
+impl<'a> Rows<'a> {
+    pub(crate) fn none() -> Rows<'a>
+        ensures { rows_held result ≡ [] }
+    {
+        Rows::Lent(&[])
+    }
+
+    /// The rows, lent.
+    pub(crate) fn lend(&self, alloc: Global) -> Result<Vec<Row<'_>>, NoMemory>
+        ensures { IfOk result (λ rows. rows.items ≡ rows_held self.now) }
+    {
+        match self {
+            Rows::Lent(records) => rows_of(alloc, *records),
+            Rows::Made(table) => table.rows(alloc),
+        }
+    }
+
+    /// A copy of the rows.
+    fn copied(&self, alloc: Global) -> Result<Rows<'a>, NoMemory>
+        ensures { IfOk result (λ copy. rows_held copy ≡ rows_held self.now) }
+    {
+        let rows = self.lend(alloc)?;
+        Ok(Rows::Made(Table::of(alloc, rows.as_slice())?))
+    }
+}
+
+/// What a vertex gave: its rows, and the first of the faults that come with them.
 #[derive(Drop)]
 pub(crate) struct Held<'a> {
-    pub(crate) rows: CowSlice<'a, Record>,
+    pub(crate) rows: Rows<'a>,
     pub(crate) first: Option<Located>,
 }
 
 /// No rows and no faults.
 pub(crate) fn nothing<'a>() -> Held<'a>
-    ensures rows { cow_slice_items result.rows ≡ [] }
+    ensures rows { rows_held result.rows ≡ [] }
     ensures first { result.first ≡ None }
 {
     Held {
-        rows: CowSlice::Borrowed(&[]),
+        rows: Rows::none(),
         first: None,
     }
 }
@@ -59,7 +91,7 @@ pub(crate) fn step<'a>(
     match node.transform {
         Transform::Sink { .. } => handed(alloc, place, inputs[0], last, held),
         _ => {
-            let given = given_at(alloc, place, node, last, held)?;
+            let given = given_at(alloc, place, node, held.as_slice())?;
             release(held, place, inputs, last);
             Ok(given)
         }
@@ -83,18 +115,18 @@ fn handed<'a>(
     let rows = if last[input] == Some(place) {
         taken(held, input)
     } else {
-        CowSlice::Owned(List::from_slice(alloc, held[input].rows.as_slice())?.into_vec())
+        held[input].rows.copied(alloc)?
     };
     Ok(Held { rows, first })
 }
 
 /// The rows of an input, of which none are left there.
-fn taken<'a>(held: &mut Vec<Held<'a>>, input: usize) -> CowSlice<'a, Record>
+fn taken<'a>(held: &mut Vec<Held<'a>>, input: usize) -> Rows<'a>
     requires { input < length held.old.items }
-    ensures rows { option_map (λ h. h.rows) (slice_get (map known held.old.items) input) ≡ Some (cow_slice_items result) }
+    ensures rows { option_map (λ h. h.rows) (slice_get (map known held.old.items) input) ≡ Some (rows_held result) }
     ensures released { (last : Sequence (Option ℕ)) (place : ℕ) → slice_get last input ≡ Some (Some place) → IsReleased last place (map known held.old.items) (map known held.new.items) }
 {
-    std::mem::replace(&mut held[input].rows, CowSlice::Borrowed(&[]))
+    std::mem::replace(&mut held[input].rows, Rows::none())
 }
 
 /// Lets the rows of some inputs go where the vertex of this place is the last that takes them.
@@ -105,7 +137,7 @@ fn release(held: &mut Vec<Held<'_>>, place: usize, inputs: &[usize], last: &[Opt
 {
     for input in inputs {
         if last[*input] == Some(place) {
-            held[*input].rows = CowSlice::Borrowed(&[]);
+            held[*input].rows = Rows::none();
         }
     }
 }
@@ -115,26 +147,22 @@ fn given_at<'a>(
     alloc: Global,
     place: usize,
     node: &Node<'a>,
-    last: &[Option<usize>],
-    held: &mut Vec<Held<'a>>,
+    held: &[Held<'_>],
 ) -> Result<Held<'a>, NoMemory>
-    requires within { All (λ j. j < length held.old.items) node.now.inputs }
-    requires noted { length held.old.items ≤ length last.now }
+    requires within { All (λ j. j < length held.now) node.now.inputs }
     requires sound { IsTrue (is_sound node.now.transform.now) }
     requires ports { length node.now.inputs ≡ length (kinds_of node.now.transform.now) }
-    ensures given { IfOk result (λ h. (vals : Sequence ByPlace) → Feeds vals (map known held.old.items) node.now.inputs → known h ≡ known_value (value_at vals place (node_of node.now))) }
-    ensures released { OnOk result (IsReleased last.now place (map known held.old.items) (map known held.new.items)) }
-    ensures size { OnOk result (length held.new.items ≡ length held.old.items) }
+    ensures { IfOk result (λ h. (vals : Sequence ByPlace) → Feeds vals (map known held.now) node.now.inputs → known h ≡ known_value (value_at vals place (node_of node.now))) }
 {
     let inputs = node.inputs.as_slice();
-    let passed = passed_on(alloc, inputs, held.as_slice())?;
-    if is_blocked(node.transform, inputs, held.as_slice()) {
+    let passed = passed_on(alloc, inputs, held)?;
+    if is_blocked(node.transform, inputs, held) {
         return Ok(Held {
-            rows: CowSlice::Borrowed(&[]),
+            rows: Rows::none(),
             first: passed,
         });
     }
-    let (rows, own) = applied_at(alloc, place, node, last, held)?;
+    let (rows, own) = applied_at(alloc, place, node, held)?;
     Ok(Held {
         rows,
         first: earlier(passed, own),
@@ -146,89 +174,42 @@ fn applied_at<'a>(
     alloc: Global,
     place: usize,
     node: &Node<'a>,
-    last: &[Option<usize>],
-    held: &mut Vec<Held<'a>>,
-) -> Result<(CowSlice<'a, Record>, Option<Located>), NoMemory>
-    requires within { All (λ j. j < length held.old.items) node.now.inputs }
-    requires noted { length held.old.items ≤ length last.now }
+    held: &[Held<'_>],
+) -> Result<(Rows<'a>, Option<Located>), NoMemory>
+    requires within { All (λ j. j < length held.now) node.now.inputs }
     requires sound { IsTrue (is_sound node.now.transform.now) }
-    ensures rows { IfOk result (λ given. (vals : Sequence ByPlace) → Feeds vals (map known held.old.items) node.now.inputs → cow_slice_items given.0 ≡ rows_in (answers_at vals (node_of node.now))) }
-    ensures first { IfOk result (λ given. (vals : Sequence ByPlace) → Feeds vals (map known held.old.items) node.now.inputs → option_map arisen_at given.1 ≡ first_fault (map (arisen place) (own_faults (answers_at vals (node_of node.now))))) }
-    ensures released { OnOk result (IsReleased last.now place (map known held.old.items) (map known held.new.items)) }
-    ensures size { OnOk result (length held.new.items ≡ length held.old.items) }
+    ensures rows { IfOk result (λ given. (vals : Sequence ByPlace) → Feeds vals (map known held.now) node.now.inputs → rows_held given.0 ≡ rows_in (answers_at vals (node_of node.now))) }
+    ensures first { IfOk result (λ given. (vals : Sequence ByPlace) → Feeds vals (map known held.now) node.now.inputs → option_map arisen_at given.1 ≡ first_fault (map (arisen place) (own_faults (answers_at vals (node_of node.now))))) }
 {
     let inputs = node.inputs.as_slice();
     match node.transform {
-        Transform::Source { rows } => Ok((CowSlice::Borrowed(rows.as_slice()), None)),
+        Transform::Source { rows } => Ok((Rows::Lent(rows.as_slice()), None)),
         Transform::Union { .. } => {
-            let rows = joined(alloc, inputs, held.as_slice())?;
-            Ok((CowSlice::Owned(rows), None))
+            let rows = joined(alloc, inputs, held)?;
+            Ok((Rows::Made(Table::of(alloc, rows.as_slice())?), None))
         }
         transform => {
-            let applied = applied_to(alloc, place, transform, inputs, last, held)?;
-            let own = first_own(place, applied.faults);
-            Ok((CowSlice::Owned(applied.rows.into_vec()), own))
+            let Given { rows, faults } = given_on(alloc, transform, inputs, held)?;
+            Ok((Rows::Made(rows), first_own(place, faults)))
         }
     }
 }
 
-/// What a transform gives on the rows of its first and its second port. The rows of an only port are taken where no
-/// later vertex takes them.
-fn applied_to(
+/// What a transform gives on the rows of its first and its second port.
+fn given_on(
     alloc: Global,
-    place: usize,
     transform: &Transform,
     inputs: &[usize],
-    last: &[Option<usize>],
-    held: &mut Vec<Held<'_>>,
-) -> Result<Applied, NoMemory>
-    requires within { All (λ j. j < length held.old.items) inputs.now }
-    requires noted { length held.old.items ≤ length last.now }
+    held: &[Held<'_>],
+) -> Result<Given, NoMemory>
+    requires within { All (λ j. j < length held.now) inputs.now }
     requires sound { IsTrue (is_sound transform.now) }
-    ensures rows { IfOk result (λ a. (vals : Sequence ByPlace) → Feeds vals (map known held.old.items) inputs.now → a.rows ≡ rows_in (answers_on vals inputs.now transform.now)) }
-    ensures faults { IfOk result (λ a. (vals : Sequence ByPlace) → Feeds vals (map known held.old.items) inputs.now → a.faults ≡ own_faults (answers_on vals inputs.now transform.now)) }
-    ensures released { OnOk result (IsReleased last.now place (map known held.old.items) (map known held.new.items)) }
-    ensures size { OnOk result (length held.new.items ≡ length held.old.items) }
+    ensures rows { IfOk result (λ g. (vals : Sequence ByPlace) → Feeds vals (map known held.now) inputs.now → g.rows ≡ rows_in (answers_on vals inputs.now transform.now)) }
+    ensures faults { IfOk result (λ g. (vals : Sequence ByPlace) → Feeds vals (map known held.now) inputs.now → g.faults ≡ own_faults (answers_on vals inputs.now transform.now)) }
 {
-    match own_input(place, inputs, last) {
-        Some(input) => applied_once(alloc, transform, taken(held, input)),
-        None => {
-            let held = held.as_slice();
-            apply(
-                alloc,
-                transform,
-                rows_at(inputs, 0, held),
-                rows_at(inputs, 1, held),
-            )
-        }
-    }
-}
-
-/// The only input of the vertex of a place, where no later vertex takes its rows.
-fn own_input(place: usize, inputs: &[usize], last: &[Option<usize>]) -> Option<usize>
-    requires { All (λ j. j < length last.now) inputs.now }
-    ensures { IfSome result (λ input. (inputs.now ≡ input ∷ []) × (slice_get last.now input ≡ Some (Some place))) }
-{
-    match inputs {
-        [input] if last[*input] == Some(place) => Some(*input),
-        _ => None,
-    }
-}
-
-/// What a transform gives on rows alone, which are let go.
-fn applied_once(
-    alloc: Global,
-    transform: &Transform,
-    rows: CowSlice<'_, Record>,
-) -> Result<Applied, NoMemory>
-    requires { IsTrue (is_sound transform.now) }
-    ensures rows { IfOk result (λ a. a.rows ≡ rows_in (answers transform.now (cow_slice_items rows.entry) [])) }
-    ensures faults { IfOk result (λ a. a.faults ≡ own_faults (answers transform.now (cow_slice_items rows.entry) [])) }
-{
-    match rows {
-        CowSlice::Owned(rows) => apply_owned(alloc, transform, List::from_vec(rows)),
-        CowSlice::Borrowed(rows) => apply(alloc, transform, rows, &[]),
-    }
+    let first = rows_at(alloc, inputs, 0, held)?;
+    let second = rows_at(alloc, inputs, 1, held)?;
+    transformed(alloc, transform, first.as_slice(), second.as_slice())
 }
 
 /// The first of the own faults of the vertex of a place, which are in order.
@@ -244,25 +225,34 @@ fn first_own(place: usize, faults: List<Fault>) -> Option<Located>
 }
 
 /// The rows of a port, and none where there is no such port.
-fn rows_at<'b>(inputs: &[usize], number: usize, held: &'b [Held<'_>]) -> &'b [Record]
+fn rows_at<'b>(
+    alloc: Global,
+    inputs: &[usize],
+    number: usize,
+    held: &'b [Held<'_>],
+) -> Result<Vec<Row<'b>>, NoMemory>
     requires within { All (λ j. j < length held.now) inputs.now }
-    ensures { (vals : Sequence ByPlace) → Feeds vals (map known held.now) inputs.now → result.now ≡ (port (map (port vals) inputs.now) number).rows }
+    ensures { IfOk result (λ rows. (vals : Sequence ByPlace) → Feeds vals (map known held.now) inputs.now → rows.items ≡ (port (map (port vals) inputs.now) number).rows) }
 {
     match inputs.get(number) {
-        Some(input) => held[*input].rows.as_slice(),
-        None => &[],
+        Some(input) => held[*input].rows.lend(alloc),
+        None => Ok(Vec::new(alloc)),
     }
 }
 
 /// The rows of all ports, port by port.
-fn joined(alloc: Global, inputs: &[usize], held: &[Held<'_>]) -> Result<Vec<Record>, NoMemory>
+fn joined<'b>(
+    alloc: Global,
+    inputs: &[usize],
+    held: &'b [Held<'_>],
+) -> Result<Vec<Row<'b>>, NoMemory>
     requires within { All (λ j. j < length held.now) inputs.now }
     ensures { IfOk result (λ rows. (vals : Sequence ByPlace) → Feeds vals (map known held.now) inputs.now → rows.items ≡ all_rows (map (port vals) inputs.now)) }
 {
     let mut all = Vec::new(alloc);
     for input in inputs {
-        let copies = List::from_slice(alloc, held[*input].rows.as_slice())?;
-        all.append(&mut copies.into_vec())?;
+        let mut rows = held[*input].rows.lend(alloc)?;
+        all.append(&mut rows)?;
     }
     Ok(all)
 }

@@ -8,8 +8,8 @@ ghost use Rattle.nemo_transform.specs.Gives.{answers, rows_in};
 ghost use Rattle.nemo_transform.specs.Soundness.{is_sound};
 
 use nemo_ir::{FlatJob, FlatVertex, source_part};
-use nemo_transform::{Transform, apply_owned};
-use nemo_value::{List, NoMemory, Record};
+use nemo_transform::{Transform, apply};
+use nemo_value::{NoMemory, Record};
 use std::alloc::Global;
 
 /// The rows of a task after all vertices of a line, one after another. The first is a source, of which the task has its
@@ -81,7 +81,7 @@ fn apply_part(
         | Transform::Join
         | Transform::SideJoin
         | Transform::Sink { .. } => {
-            let applied = apply_owned(alloc, transform, List::from_vec(rows))?;
+            let applied = apply(alloc, transform, &rows, &[])?;
             Ok(applied.rows.into_vec())
         }
     }

@@ -27,3 +27,9 @@ abbrev pub Puts : {T : Type 0} → Result T EvalFault → Result (List Row) Kind
 Puts (Ok done) rows old new = then_rows (Ok old) rows ≡ Ok new
 Puts (Err (Fault kind)) rows old new = (rows ≡ Err kind) × (take (length old) new ≡ old)
 Puts (Err NoMemory) rows old new = Unit {0}
+
+-- the fields of a row are made, or there is a fault
+abbrev pub Fills : {T : Type 0} → Result T EvalFault → Result Row Kind → Row → Type 0
+Fills (Ok done) row made = row ≡ Ok made
+Fills (Err (Fault kind)) row made = row ≡ Err kind
+Fills (Err NoMemory) row made = Unit {0}

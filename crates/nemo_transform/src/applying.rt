@@ -7,29 +7,25 @@ ghost use Rattle.nemo_transform.specs.Soundness.{is_sound};
 use crate::fault::{Fault, in_order};
 use crate::grouping::{distinct, reduced};
 use crate::joining::joined;
-use crate::rowwise::{filter_owned, row_by_row, row_by_row_owned};
+use crate::rowwise::row_by_row;
 use crate::transform::Transform;
-use nemo_value::{List, NoMemory, Record};
+use nemo_value::{List, NoMemory, Record, Row, Table, rows_of};
 use std::alloc::Global;
 
 /// The rows that a transform gives, and its own faults by kind and record, each once.
 #[derive(Drop)]
-pub struct Applied {
-    pub rows: List<Record>,
+pub struct Given {
+    pub rows: Table,
     pub faults: List<Fault>,
 }
 
-impl Applied {
+impl Given {
     /// These rows, with the different faults in order.
-    pub(crate) fn new(
-        alloc: Global,
-        rows: List<Record>,
-        faults: Vec<Fault>,
-    ) -> Result<Applied, NoMemory>
-        ensures rows { IfOk result (λ a. a.rows ≡ rows) }
-        ensures faults { IfOk result (λ a. a.faults ≡ ascending fault_cmp faults.items) }
+    pub(crate) fn new(alloc: Global, rows: Table, faults: Vec<Fault>) -> Result<Given, NoMemory>
+        ensures rows { IfOk result (λ g. g.rows ≡ rows) }
+        ensures faults { IfOk result (λ g. g.faults ≡ ascending fault_cmp faults.items) }
     {
-        Ok(Applied {
+        Ok(Given {
             rows,
             faults: in_order(alloc, faults)?,
         })
@@ -39,18 +35,18 @@ impl Applied {
 /// What the transform gives. `first` has the rows of all Main ports, port by port, or those of the left port, and
 /// `second` those of the right port or of the Side port.
 #[tactic(auto, using(crate::proofs::MapSteps::passing))]
-pub fn apply(
+pub fn transformed(
     alloc: Global,
     transform: &Transform,
-    first: &[Record],
-    second: &[Record],
-) -> Result<Applied, NoMemory>
+    first: &[Row<'_>],
+    second: &[Row<'_>],
+) -> Result<Given, NoMemory>
     requires { IsTrue (is_sound transform.now) }
-    ensures rows { IfOk result (λ a. a.rows ≡ rows_in (answers transform.now first.now second.now)) }
-    ensures faults { IfOk result (λ a. a.faults ≡ own_faults (answers transform.now first.now second.now)) }
+    ensures rows { IfOk result (λ g. g.rows ≡ rows_in (answers transform.now first.now second.now)) }
+    ensures faults { IfOk result (λ g. g.faults ≡ own_faults (answers transform.now first.now second.now)) }
 {
     match transform {
-        Transform::Source { rows } => passed(alloc, rows),
+        Transform::Source { rows } => passed_records(alloc, rows),
         Transform::Union { .. } | Transform::Sink { .. } => passed(alloc, first),
         Transform::Map { .. }
         | Transform::Filter { .. }
@@ -62,42 +58,57 @@ pub fn apply(
     }
 }
 
-/// What the transform gives on rows that nobody else takes: as `apply` with no second rows, but the rows are taken. A
-/// filter moves those that it keeps, and a map, an emit or words let each row go as soon as its own rows are made.
-#[tactic(auto, using(crate::proofs::MapSteps::passing))]
-pub fn apply_owned(
-    alloc: Global,
-    transform: &Transform,
-    rows: List<Record>,
-) -> Result<Applied, NoMemory>
-    requires { IsTrue (is_sound transform.now) }
-    ensures rows { IfOk result (λ a. a.rows ≡ rows_in (answers transform.now rows [])) }
-    ensures faults { IfOk result (λ a. a.faults ≡ own_faults (answers transform.now rows [])) }
+/// The rows as they are.
+fn passed(alloc: Global, rows: &[Row<'_>]) -> Result<Given, NoMemory>
+    ensures rows { IfOk result (λ g. g.rows ≡ rows.now) }
+    ensures faults { IfOk result (λ g. g.faults ≡ []) }
 {
-    match transform {
-        Transform::Union { .. } | Transform::Sink { .. } => Ok(Applied {
-            rows,
-            faults: List::new(alloc),
-        }),
-        Transform::Filter { cond } => filter_owned(alloc, cond, rows),
-        Transform::Map { .. } | Transform::Emit { .. } | Transform::Words { .. } => {
-            row_by_row_owned(alloc, transform, rows)
-        }
-        Transform::Source { .. }
-        | Transform::Reduce { .. }
-        | Transform::Distinct
-        | Transform::Join
-        | Transform::SideJoin => apply(alloc, transform, &rows, &[]),
-    }
+    Ok(Given {
+        rows: Table::of(alloc, rows)?,
+        faults: List::new(alloc),
+    })
 }
 
-/// The rows as they are.
-fn passed(alloc: Global, rows: &[Record]) -> Result<Applied, NoMemory>
-    ensures rows { IfOk result (λ a. a.rows ≡ rows.now) }
-    ensures faults { IfOk result (λ a. a.faults ≡ []) }
+/// The records as they are.
+fn passed_records(alloc: Global, records: &[Record]) -> Result<Given, NoMemory>
+    ensures rows { IfOk result (λ g. g.rows ≡ records.now) }
+    ensures faults { IfOk result (λ g. g.faults ≡ []) }
 {
+    let rows = rows_of(alloc, records)?;
+    passed(alloc, rows.as_slice())
+}
+
+/// The rows that a transform gives, as records, and its own faults by kind and record, each once.
+#[derive(Drop)]
+pub struct Applied {
+    pub rows: List<Record>,
+    pub faults: List<Fault>,
+}
+
+/// What the transform gives on records, as `transformed`.
+pub fn apply(
+    alloc: Global,
+    transform: &Transform,
+    first: &[Record],
+    second: &[Record],
+) -> Result<Applied, NoMemory>
+    requires { IsTrue (is_sound transform.now) }
+    ensures rows { IfOk result (λ a. a.rows ≡ rows_in (answers transform.now first.now second.now)) }
+    ensures faults { IfOk result (λ a. a.faults ≡ own_faults (answers transform.now first.now second.now)) }
+{
+    let first = rows_of(alloc, first)?;
+    let second = rows_of(alloc, second)?;
+    in_records(alloc, transformed(alloc, transform, first.as_slice(), second.as_slice())?)
+}
+
+/// The same rows, as records.
+fn in_records(alloc: Global, given: Given) -> Result<Applied, NoMemory>
+    ensures rows { IfOk result (λ a. a.rows ≡ given.rows) }
+    ensures faults { IfOk result (λ a. a.faults ≡ given.faults) }
+{
+    let Given { rows, faults } = given;
     Ok(Applied {
-        rows: List::from_slice(alloc, rows)?,
-        faults: List::new(alloc),
+        rows: rows.records(alloc)?,
+        faults,
     })
 }

@@ -1,11 +1,13 @@
-ghost use Rattle.std.specs.Prelude.{◌≡◌, ◌+◌, ◌^◌, ◌<◌, ◌≤◌, [], ◌∷◌, ◌++◌, map, option_to_list, IfOk, OnOk};
+ghost use Rattle.std.specs.Prelude.{◌≡◌, ◌+◌, ◌^◌, ◌<◌, ◌≤◌, [], ◌∷◌, ◌++◌, map, IfOk, OnOk};
 ghost use Rattle.std.specs.HashMap.{get_by};
 ghost use Rattle.std.specs.List.{filter_map, flat_map};
 ghost use Rattle.std.specs.List.Sorted.{IsStrictlySortedBy};
 ghost use Rattle.std.specs.Map.{lookup};
 ghost use Rattle.std.specs.Option.{option_copied, option_map};
 ghost use Rattle.nemo_value.specs.Answers.{Gives};
-ghost use Rattle.nemo_value.specs.Order.{field_cmp};
+ghost use Rattle.nemo_value.specs.Ascending.{ascending};
+ghost use Rattle.nemo_value.specs.Order.{field_cmp, record_cmp};
+ghost use Rattle.nemo_value.specs.Sorting.{sorted};
 ghost use Rattle.nemo_value.specs.declared.field.Field.{Field};
 ghost use Rattle.nemo_transform.specs.Folds.{known, known_or, known_group, start_of, folding_of, folded_with, with_read, why, value_in, lesser, greater, size};
 ghost use Rattle.nemo_transform.specs.FirstField.{with_first};
@@ -14,31 +16,40 @@ ghost use Rattle.nemo_value.specs.Key.{first_key};
 ghost use Rattle.nemo_transform.specs.Groups.{group_of, fault_of, at_key, key_of, seen, answer_at};
 ghost use Rattle.nemo_transform.specs.declared.transform.Transform.TheVariants.{Reduce, Distinct};
 
-use crate::applying::Applied;
+use crate::applying::Given;
 use crate::fault::Fault;
 use crate::transform::Folding;
-use nemo_value::{EvalFault, Field, Kind, List, NoMemory, Record, TryCopy, sort_records};
+use nemo_value::{EvalFault, Field, Kind, List, NoMemory, Record, Row, Table, TryCopy, sorted_rows};
 use std::alloc::Global;
 use std::cmp::Ordering;
 use std::collections::{HashMap, HashSet};
 
 /// Each different row once, in ascending order.
 #[tactic(auto, using(crate::proofs::MapSteps::passing))]
-pub(crate) fn distinct(alloc: Global, rows: &[Record]) -> Result<Applied, NoMemory>
-    ensures rows { IfOk result (λ a. a.rows ≡ rows_in (answers Distinct rows.now [])) }
-    ensures faults { IfOk result (λ a. a.faults ≡ own_faults (answers Distinct rows.now [])) }
+pub(crate) fn distinct(alloc: Global, rows: &[Row<'_>]) -> Result<Given, NoMemory>
+    ensures rows { IfOk result (λ g. g.rows ≡ rows_in (answers Distinct rows.now [])) }
+    ensures faults { IfOk result (λ g. g.faults ≡ own_faults (answers Distinct rows.now [])) }
 {
-    let mut seen: HashSet<&Record> = HashSet::new(alloc);
-    let mut different = List::new(alloc);
-    for row in rows {
-        if seen.insert(row)? {
-            different.push(row.copy(alloc)?)?;
-        }
-    }
-    Ok(Applied {
-        rows: sort_records(alloc, different)?,
+    let different = different_rows(alloc, rows)?;
+    let ordered = sorted_rows(alloc, different)?;
+    Ok(Given {
+        rows: Table::of(alloc, ordered.as_slice())?,
         faults: List::new(alloc),
     })
+}
+
+/// Each different row once, by its first place.
+fn different_rows<'a>(alloc: Global, rows: &[Row<'a>]) -> Result<Vec<Row<'a>>, NoMemory>
+    ensures { IfOk result (λ different. sorted record_cmp different.items ≡ ascending record_cmp rows.now) }
+{
+    let mut seen: HashSet<&[Field]> = HashSet::new(alloc);
+    let mut different = Vec::new(alloc);
+    for row in rows {
+        if seen.insert(row.fields())? {
+            different.push(row.again())?;
+        }
+    }
+    Ok(different)
 }
 
 /// Of each key in ascending order the key and the fold of its rows' fields, or the faults of its bad rows.
@@ -46,16 +57,16 @@ pub(crate) fn reduced(
     alloc: Global,
     by: Folding,
     field: u32,
-    rows: &[Record],
-) -> Result<Applied, NoMemory>
-    ensures rows { IfOk result (λ a. a.rows ≡ rows_in (answers (Reduce by field) rows.now [])) }
-    ensures faults { IfOk result (λ a. a.faults ≡ own_faults (answers (Reduce by field) rows.now [])) }
+    rows: &[Row<'_>],
+) -> Result<Given, NoMemory>
+    ensures rows { IfOk result (λ g. g.rows ≡ rows_in (answers (Reduce by field) rows.now [])) }
+    ensures faults { IfOk result (λ g. g.faults ≡ own_faults (answers (Reduce by field) rows.now [])) }
 {
     let mut faults = Vec::new(alloc);
     let groups = groups_of(alloc, by, field, rows, &mut faults)?;
     let entries = in_key_order(alloc, groups)?;
     let given = rows_of(alloc, &entries, &mut faults)?;
-    Applied::new(alloc, given, faults)
+    Given::new(alloc, given, faults)
 }
 
 /// The group of the rows of each key. The faults of bad rows go behind others.
@@ -63,7 +74,7 @@ fn groups_of<'a>(
     alloc: Global,
     by: Folding,
     field: u32,
-    rows: &'a [Record],
+    rows: &[Row<'a>],
     faults: &mut Vec<Fault>,
 ) -> Result<HashMap<&'a Field, Group<'a>>, NoMemory>
     ensures groups { IfOk result (λ m. (k : Field) → option_map known_group (get_by (at_key k) m) ≡ group_of by field (with_first k rows.now)) }
@@ -79,7 +90,7 @@ fn groups_of<'a>(
         if let Some(kind) = why {
             faults.push(Fault {
                 kind,
-                rec: row.copy(alloc)?,
+                rec: row.to_record(alloc)?,
             })?;
         }
     }
@@ -104,67 +115,76 @@ fn rows_of(
     alloc: Global,
     entries: &[(&Field, Group<'_>)],
     faults: &mut Vec<Fault>,
-) -> Result<List<Record>, NoMemory>
+) -> Result<Table, NoMemory>
     ensures rows { IfOk result (λ rows. rows ≡ rows_in (flat_map answer_at (map seen entries.now))) }
     ensures faults { OnOk result (faults.new.items ≡ faults.old.items ++ filter_map fault_in (flat_map answer_at (map seen entries.now))) }
 {
-    let mut given = List::with_capacity(alloc, entries.len())?;
+    let mut given = Table::new(alloc);
+    let mut fields = Vec::new(alloc);
     for entry in entries {
-        push_answer(alloc, entry.0, entry.1, &mut given, faults)?;
+        push_answer(alloc, entry.0, entry.1, &mut given, &mut fields, faults)?;
     }
     Ok(given)
 }
 
-/// Puts the row or the fault of a key behind others.
+/// Puts the row, which is made in a buffer of fields, or the fault of a key behind others.
 fn push_answer(
     alloc: Global,
     key: &Field,
     group: Group<'_>,
-    rows: &mut List<Record>,
+    rows: &mut Table,
+    fields: &mut Vec<Field>,
     faults: &mut Vec<Fault>,
 ) -> Result<(), NoMemory>
     ensures rows { OnOk result (rows.new ≡ rows.old ++ rows_in (answer_at (key.now, known_group group.entry))) }
     ensures faults { OnOk result (faults.new.items ≡ faults.old.items ++ filter_map fault_in (answer_at (key.now, known_group group.entry))) }
 {
-    match answer_of(alloc, key, group)? {
-        Some(Ok(row)) => rows.push(row)?,
-        Some(Err(fault)) => faults.push(fault)?,
-        None => {}
-    }
-    Ok(())
-}
-
-/// The row or the fault of a key, but for the faults of its bad rows.
-fn answer_of(
-    alloc: Global,
-    key: &Field,
-    group: Group<'_>,
-) -> Result<Option<Result<Record, Fault>>, NoMemory>
-    ensures { IfOk result (λ answer. option_to_list answer ≡ answer_at (key.now, known_group group.entry)) }
-{
     if group.is_bad {
-        return Ok(None);
+        return Ok(());
     }
     match value_of(alloc, group.fold) {
-        Ok(Some(value)) => Ok(Some(Ok(key_row(alloc, key, Some(value))?))),
-        Ok(None) => Ok(None),
-        Err(EvalFault::Fault(kind)) => Ok(Some(Err(Fault {
-            kind,
-            rec: key_row(alloc, key, None)?,
-        }))),
+        Ok(Some(value)) => push_pair(alloc, key, value, rows, fields),
+        Ok(None) => Ok(()),
+        Err(EvalFault::Fault(kind)) => push_fault(alloc, kind, key, faults),
         Err(EvalFault::NoMemory) => Err(NoMemory),
     }
 }
 
-/// The row of a key and, where it has one, a value.
-fn key_row(alloc: Global, key: &Field, value: Option<Field>) -> Result<Record, NoMemory>
-    ensures { IfOk result (λ row. row ≡ key.now ∷ [] ++ option_to_list value) }
+/// Puts the row of a key and a value behind others.
+fn push_pair(
+    alloc: Global,
+    key: &Field,
+    value: Field,
+    rows: &mut Table,
+    fields: &mut Vec<Field>,
+) -> Result<(), NoMemory>
+    ensures { OnOk result (rows.new ≡ rows.old ++ (key.now ∷ value ∷ []) ∷ []) }
 {
-    let mut fields = List::with_capacity(alloc, 2)?;
+    fields.clear();
     fields.push(key.copy(alloc)?)?;
-    if let Some(field) = value {
-        fields.push(field)?;
-    }
+    fields.push(value)?;
+    rows.push(fields)
+}
+
+/// Puts the fault of a key, which is its record, behind others.
+fn push_fault(
+    alloc: Global,
+    kind: Kind,
+    key: &Field,
+    faults: &mut Vec<Fault>,
+) -> Result<(), NoMemory>
+    ensures { OnOk result (faults.new.items ≡ faults.old.items ++ record { kind = kind; rec = key.now ∷ [] } ∷ []) }
+{
+    let rec = key_record(alloc, key)?;
+    Ok(faults.push(Fault { kind, rec })?)
+}
+
+/// The record of a key alone.
+fn key_record(alloc: Global, key: &Field) -> Result<Record, NoMemory>
+    ensures { IfOk result (λ made. made ≡ key.now ∷ []) }
+{
+    let mut fields = List::with_capacity(alloc, 1)?;
+    fields.push(key.copy(alloc)?)?;
     Ok(Record::of(fields))
 }
 

@@ -11,7 +11,7 @@ mod rowwise;
 mod shape;
 mod transform;
 
-pub use applying::{Applied, apply, apply_owned};
+pub use applying::{Applied, Given, apply, transformed};
 pub use counting::ports;
 pub use fault::Fault;
 pub use laws::{key_law, order_law, row_law, task_law};

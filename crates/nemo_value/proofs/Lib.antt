@@ -1,5 +1,6 @@
 pub mod AscendingLists
 pub mod AscendingParts
+pub mod Cuts
 pub mod FirstKey
 pub mod JoinedLists
 pub mod KindPlaces

@@ -4,6 +4,7 @@ pub mod Ascending
 pub mod Bucket
 pub mod Copies
 pub mod Counted
+pub mod Cuts
 pub mod FieldOrder
 pub mod Key
 pub mod KindOrder

@@ -1,4 +1,5 @@
-ghost use Rattle.std.specs.Prelude.{◌≡◌, ℤ, Ok, FitsSigned, slice_get};
+ghost use Rattle.std.specs.Prelude.{◌≡◌, ℤ, Ok, FitsSigned, IfSome, slice_get};
+ghost use Rattle.nemo_value.specs.declared.field.Field.TheVariants.{Int};
 ghost use Rattle.std.specs.Cow.{cow_value};
 ghost use Rattle.std.specs.Int.{w64};
 ghost use Rattle.std.specs.Option.{SomeIff};
@@ -9,9 +10,8 @@ ghost use Rattle.nemo_value.specs.Val as spec;
 use crate::expr::{Expr, Kind, Oper};
 use crate::field::Field;
 use crate::memory::NoMemory;
-use crate::record::Record;
 use crate::try_copy::TryCopy;
-use std::alloc::Global;
+use std::alloc::{AllocFailed, Global};
 use std::borrow::Cow;
 
 /// Why an expression has no value: a fault of its own, or want of memory.
@@ -35,19 +35,90 @@ impl From<NoMemory> for EvalFault {
     }
 }
 
-/// The value of an expression on a record, or its first fault. Operands are evaluated from left to right, and of a
-/// choice only the chosen one. Numbers are exact: `Overflow` comes only where the result doesn't fit 64 bits.
-pub fn eval(alloc: Global, expr: &Expr, row: &Record) -> Result<Field, EvalFault>
+impl<T: Drop> From<AllocFailed<T>> for EvalFault {
+    ghost use Rattle.nemo_value.specs.declared.evaluate.EvalFault.TheVariants.{NoMemory};
+    ghost use Rattle.std.specs.Prelude.{◌≡◌};
+
+    ghost from_gives = { λ _ e. e ≡ NoMemory };
+
+    fn from(_e: AllocFailed<T>) -> EvalFault {
+        EvalFault::NoMemory
+    }
+}
+
+/// The value of an expression on a record's fields, or its first fault. Operands are evaluated from left to right, and
+/// of a choice only the chosen one. Numbers are exact: `Overflow` comes only where the result doesn't fit 64 bits.
+pub fn eval(alloc: Global, expr: &Expr, row: &[Field]) -> Result<Field, EvalFault>
     ensures { Gives result (val expr.now row.now) }
 {
+    if let Some(n) = number_of(expr, row) {
+        return Ok(Field::Int(n));
+    }
     match value(alloc, expr, row)? {
         Cow::Borrowed(field) => Ok(field.copy(alloc)?),
         Cow::Owned(field) => Ok(field),
     }
 }
 
+/// The value of an expression that is a number and is made of numbers alone, which takes no memory. Nothing is said of
+/// the others, which are those with texts, tests of texts and faults.
+fn number_of(expr: &Expr, row: &[Field]) -> Option<i64>
+    ensures { IfSome result (λ n. val expr.now row.now ≡ Ok (Int n)) }
+{
+    match expr {
+        Expr::Get(place) => number_at(row, *place),
+        Expr::Const(field) => number_in(field),
+        Expr::Pair(oper, a, b) => {
+            let x = number_of(a.get(), row)?;
+            number_by(*oper, x, number_of(b.get(), row)?)
+        }
+        Expr::If(test, a, b) => {
+            if number_of(test.get(), row)? != 0 {
+                number_of(a.get(), row)
+            } else {
+                number_of(b.get(), row)
+            }
+        }
+        Expr::Len(_) => None,
+    }
+}
+
+fn number_at(row: &[Field], place: u32) -> Option<i64>
+    ensures { IfSome result (λ n. field_or (slice_get row.now place) ≡ Ok (Int n)) }
+{
+    match row.get(place as usize) {
+        Some(field) => number_in(field),
+        None => None,
+    }
+}
+
+fn number_in(field: &Field) -> Option<i64>
+    ensures { IfSome result (λ n. field.now ≡ Int n) }
+{
+    match field {
+        Field::Int(n) => Some(*n),
+        Field::Text(_) => None,
+    }
+}
+
+/// An operator on two numbers, where it gives a number.
+fn number_by(oper: Oper, x: i64, y: i64) -> Option<i64>
+    ensures { IfSome result (λ n. spec.on_fields oper (Int x) (Int y) ≡ Ok (Int n)) }
+{
+    match oper {
+        Oper::Less => Some(i64::from(x < y)),
+        Oper::Same => Some(i64::from(x == y)),
+        Oper::Cat => None,
+        Oper::Add => x.checked_add(y),
+        Oper::Sub => x.checked_sub(y),
+        Oper::Mul => x.checked_mul(y),
+        Oper::Div => x.checked_div(y),
+        Oper::Rem => x.checked_rem(y),
+    }
+}
+
 /// The value of an expression on a record, lent where it stands in one of the two, or its first fault.
-fn value<'a>(alloc: Global, expr: &'a Expr, row: &'a Record) -> Result<Cow<'a, Field>, EvalFault>
+fn value<'a>(alloc: Global, expr: &'a Expr, row: &'a [Field]) -> Result<Cow<'a, Field>, EvalFault>
     ensures { Lends result (val expr.now row.now) }
 {
     match expr {
@@ -70,10 +141,10 @@ fn value<'a>(alloc: Global, expr: &'a Expr, row: &'a Record) -> Result<Cow<'a, F
     }
 }
 
-fn field_at<'a>(row: &'a Record, place: u32) -> Result<Cow<'a, Field>, EvalFault>
+fn field_at<'a>(row: &'a [Field], place: u32) -> Result<Cow<'a, Field>, EvalFault>
     ensures { Lends result (field_or (slice_get row.now place)) }
 {
-    match row.get(place) {
+    match row.get(place as usize) {
         Some(field) => Ok(Cow::Borrowed(field)),
         None => Err(EvalFault::Fault(Kind::NoField)),
     }

@@ -1,17 +1,17 @@
 use crate::field::Field;
-use crate::record::Record;
+use crate::row::Row;
 use std::cmp::Ordering;
 use std::marker::Model;
 
-/// A record with the number that its first field is, if it is one. Most records are told apart by it, without a look
-/// at their fields, which lie elsewhere in memory. Contracts see the record.
+/// A row with the number that its first field is, if it is one. Most rows are told apart by it, without a look at
+/// their fields, which lie elsewhere in memory. Contracts see the row.
 #[derive(Drop)]
-pub(crate) struct Keyed {
+pub(crate) struct Keyed<'a> {
     number: Option<i64>,
-    row: Record,
+    row: Row<'a>,
 }
 
-impl Model for Keyed {
+impl<'a> Model for Keyed<'a> {
     ghost use Rattle.std.specs.Prelude.{List, ◌≡◌};
     ghost use Rattle.nemo_value.specs.Order.{number_of};
     ghost use Rattle.nemo_value.specs.declared.field.Field.{Field};
@@ -23,11 +23,11 @@ impl Model for Keyed {
     ghost invariant = { λ k. k.number ≡ number_of k.row };
 }
 
-impl Keyed {
+impl<'a> Keyed<'a> {
     ghost use Rattle.std.specs.Prelude.{◌≡◌};
 
-    pub(crate) fn new(row: Record) -> Keyed
-        ensures { result ≡ row }
+    pub(crate) fn new(row: Row<'a>) -> Keyed<'a>
+        ensures { result ≡ row.entry }
     {
         let number = match row.key() {
             Field::Int(n) => Some(*n),
@@ -36,14 +36,14 @@ impl Keyed {
         Keyed { number, row }
     }
 
-    pub(crate) fn into_record(self) -> Record
-        ensures { result ≡ self }
+    pub(crate) fn into_row(self) -> Row<'a>
+        ensures { result ≡ self.entry }
     {
         self.row
     }
 }
 
-impl PartialEq for Keyed {
+impl<'a> PartialEq for Keyed<'a> {
     ghost use Rattle.std.specs.Cmp.{partial_equiv_from_equiv, eq_by_cmp_equiv};
     ghost use Rattle.std.specs.Cmp.Lexicographic.{lists_total};
     ghost use Rattle.std.specs.Ordering.{eq_by_cmp};
@@ -54,12 +54,12 @@ impl PartialEq for Keyed {
 
     ghost laws = { partial_equiv_from_equiv (eq_by_cmp_equiv (lists_total field_total)) };
 
-    fn eq(&self, other: &Keyed) -> bool {
+    fn eq(&self, other: &Keyed<'a>) -> bool {
         self.cmp(other).is_eq()
     }
 }
 
-impl Eq for Keyed {
+impl<'a> Eq for Keyed<'a> {
     ghost use Rattle.std.specs.Cmp.{eq_by_cmp_equiv};
     ghost use Rattle.std.specs.Cmp.Lexicographic.{lists_total};
     ghost use Rattle.nemo_value.specs.FieldOrder.{field_total};
@@ -67,7 +67,7 @@ impl Eq for Keyed {
     ghost laws = { eq_by_cmp_equiv (lists_total field_total) };
 }
 
-impl PartialOrd for Keyed {
+impl<'a> PartialOrd for Keyed<'a> {
     ghost use Rattle.std.specs.Prelude.{Some};
     ghost use Rattle.std.specs.Cmp.{partial_order_from_total};
     ghost use Rattle.std.specs.Cmp.Lexicographic.{lists_total};
@@ -78,13 +78,13 @@ impl PartialOrd for Keyed {
 
     ghost laws = { partial_order_from_total (lists_total field_total) };
 
-    fn partial_cmp(&self, other: &Keyed) -> Option<Ordering> {
+    fn partial_cmp(&self, other: &Keyed<'a>) -> Option<Ordering> {
         Some(self.cmp(other))
     }
 }
 
-/// As the records.
-impl Ord for Keyed {
+/// As the rows.
+impl<'a> Ord for Keyed<'a> {
     ghost use Rattle.std.specs.Prelude.{refl};
     ghost use Rattle.std.specs.Cmp.Lexicographic.{lists_total};
     ghost use Rattle.nemo_value.specs.FieldOrder.{field_total};
@@ -99,10 +99,10 @@ impl Ord for Keyed {
     ghost matches_eq = { λ a b. refl };
 
     #[tactic(auto, using(crate::proofs::Numbers::by_number))]
-    fn cmp(&self, other: &Keyed) -> Ordering {
+    fn cmp(&self, other: &Keyed<'a>) -> Ordering {
         match (self.number, other.number) {
             (Some(x), Some(y)) if x != y => x.cmp(&y),
-            _ => self.row.cmp(&other.row),
+            _ => self.row.fields().cmp(other.row.fields()),
         }
     }
 }

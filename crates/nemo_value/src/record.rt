@@ -7,6 +7,7 @@ use crate::field::Field;
 use crate::list::List;
 use crate::memory::NoMemory;
 use crate::name::Name;
+use crate::row::Row;
 use crate::same::Same;
 use crate::try_copy::TryCopy;
 use std::alloc::Global;
@@ -72,6 +73,13 @@ impl Record {
         ensures few { length self.now ≤ 16 }
     {
         &self.inner
+    }
+
+    /// The record as a row.
+    pub fn row(&self) -> Row<'_>
+        ensures { result ≡ self.now }
+    {
+        Row::of(self.inner.as_slice())
     }
 
     /// The field at a place, counted from 0.

@@ -11,36 +11,46 @@ use crate::keyed::Keyed;
 use crate::list::List;
 use crate::memory::NoMemory;
 use crate::record::Record;
+use crate::row::Row;
+use crate::table::{records_of, rows_of};
 use std::alloc::Global;
 
-/// The records in ascending order, each as often as it comes. Records that tie are equal, so the sort need not be
-/// stable.
-pub fn sort_records(alloc: Global, rows: List<Record>) -> Result<List<Record>, NoMemory>
-    ensures { IfOk result (λ all. all ≡ sorted record_cmp rows) }
+/// The rows in ascending order, each as often as it comes. Rows that tie are equal, so the sort need not be stable.
+pub fn sorted_rows<'a>(alloc: Global, rows: Vec<Row<'a>>) -> Result<Vec<Row<'a>>, NoMemory>
+    ensures { IfOk result (λ all. all.items ≡ sorted record_cmp rows.entry.items) }
 {
     let mut keyed = with_numbers(alloc, rows)?;
     keyed.sort_unstable();
-    records_of(alloc, keyed)
+    without_numbers(alloc, keyed)
 }
 
-fn with_numbers(alloc: Global, rows: List<Record>) -> Result<Vec<Keyed>, NoMemory>
-    ensures { IfOk result (λ keyed. keyed.items ≡ rows) }
+fn with_numbers<'a>(alloc: Global, rows: Vec<Row<'a>>) -> Result<Vec<Keyed<'a>>, NoMemory>
+    ensures { IfOk result (λ keyed. keyed.items ≡ rows.entry.items) }
 {
     let mut keyed = Vec::with_capacity(alloc, rows.len())?;
-    for row in rows.into_vec() {
+    for row in rows {
         keyed.push(Keyed::new(row))?;
     }
     Ok(keyed)
 }
 
-fn records_of(alloc: Global, keyed: Vec<Keyed>) -> Result<List<Record>, NoMemory>
-    ensures { IfOk result (λ rows. rows ≡ keyed.items) }
+fn without_numbers<'a>(alloc: Global, keyed: Vec<Keyed<'a>>) -> Result<Vec<Row<'a>>, NoMemory>
+    ensures { IfOk result (λ rows. rows.items ≡ keyed.entry.items) }
 {
-    let mut rows = List::with_capacity(alloc, keyed.len())?;
+    let mut rows = Vec::with_capacity(alloc, keyed.len())?;
     for row in keyed {
-        rows.push(row.into_record())?;
+        rows.push(row.into_row())?;
     }
     Ok(rows)
+}
+
+/// The records in ascending order, as `sorted_rows`.
+pub fn sort_records(alloc: Global, records: List<Record>) -> Result<List<Record>, NoMemory>
+    ensures { IfOk result (λ all. all ≡ sorted record_cmp records) }
+{
+    let rows = rows_of(alloc, records.as_slice())?;
+    let ordered = sorted_rows(alloc, rows)?;
+    records_of(alloc, ordered.as_slice())
 }
 
 /// What `sorted` means for records: it has the same records, in order, and no other list has.

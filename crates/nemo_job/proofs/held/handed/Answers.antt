@@ -3,7 +3,7 @@ use Rattle.std.specs.Prelude.{vec_items}
 use Rattle.nemo_job.specs.Held.{IsReleased, known}
 use Rattle.nemo_job.proofs.Releasing.{released_none, last_here}
 use Rattle.nemo_job.proofs.held.handed.Goals as goal
-use Rattle.nemo_job.proofs.held.handed.Goals.{then-eq, else-eq+in_ok-from_slice}
+use Rattle.nemo_job.proofs.held.handed.Goals.{then-eq, else-eq+in_ok-rows}
 
 pub returns-clause-released : goal.returns-clause-released
 returns-clause-released c =
@@ -15,6 +15,6 @@ returns-clause-released c =
       | then-eq w ↦
           subst (λ l. IsReleased last place (map known old) (map known l)) (sym (ap vec_items w.held-is))
           (w.taken-rows.ensures.released last place (last_here last place c.args.input within (sym c.eq.ensures ∙ w.if-eq.true)))
-      | else-eq+in_ok-from_slice w ↦
+      | else-eq+in_ok-rows w ↦
           subst (λ l. IsReleased last place (map known old) (map known l)) (sym (ap vec_items w.held-is)) (released_none last place (map known old))
     ]

@@ -12,7 +12,7 @@ use Rattle.nemo_transform.specs.declared.fault.Fault.{Fault}
 use Rattle.nemo_transform.proofs.FirstFields.{keyless_more}
 use Rattle.nemo_transform.proofs.GroupSteps.{kept_more, old_small, folding_stays, fault_with, bad_more, fault_pushed, none_pushed}
 use Rattle.nemo_transform.proofs.grouping.groups_of.Goals as goal
-use Rattle.nemo_transform.proofs.grouping.groups_of.Goals.{in-Some+in_ok-copy+in_ok-push, in_default}
+use Rattle.nemo_transform.proofs.grouping.groups_of.Goals.{in-Some+in_ok-to_record+in_ok-push, in_default}
 
 pub with_row-why-requires : goal.with_row-why-requires
 with_row-why-requires c =
@@ -51,7 +51,7 @@ loop-row-preserved c =
           (let update = (c.in_ok-groups.ensures.update.0 new).0 (record c.key.result { now = q }) in ap (lookup (at_key q)) {y = (map_with_value c.in_ok-groups.field-0 new).entries} (search rules) ∙ update);
       keyed = keyless_more rows i row k c.loop-row-test.true c.row-item.is c.key.ensures c.loop-row.invariant.keyed;
       faults = elim c.match-why.branch [
-        | in-Some+in_ok-copy+in_ok-push w ↦ bad _ (ap (λ fs. fs.items) w.faults-is ∙ fault_pushed c.loop-row.faults.items w.push.new.self.items row w.in_ok-copy.field-0 w.in-Some.kind c.with_row-why.result.1 w.in-Some.is w.in_ok-copy.ensures w.in_ok-push.ensures.items)
+        | in-Some+in_ok-to_record+in_ok-push w ↦ bad _ (ap (λ fs. fs.items) w.faults-is ∙ fault_pushed c.loop-row.faults.items w.push.new.self.items row w.in_ok-to_record.field-0 w.in-Some.kind c.with_row-why.result.1 w.in-Some.is w.in_ok-to_record.ensures w.in_ok-push.ensures.items)
         | in_default w ↦ bad _ (ap (λ fs. fs.items) w.faults-is ∙ none_pushed c.loop-row.faults.items row c.with_row-why.result.1 w.in_default.is)
       ];
     }

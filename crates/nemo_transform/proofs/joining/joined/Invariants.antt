@@ -9,6 +9,6 @@ use Rattle.nemo_transform.proofs.joining.joined.Given as goal
 -- what was given so far, in front of what the other left rows give
 abbrev pub invariant-loop-row : goal.invariant-loop-row
 invariant-loop-row l = record {
-  rows : l.rows ++ rows_in (flat_map (joined first_key first_key l.right) (drop l.row-index l.left)) ≡ rows_in (join first_key first_key l.left l.right);
-  faults : ascending fault_cmp (l.faults.items ++ filter_map fault_in (flat_map (joined first_key first_key l.right) (drop l.row-index l.left))) ≡ own_faults (join first_key first_key l.left l.right);
+  rows : l.rows ++ rows_in (flat_map (joined first_key first_key l.fn.right) (drop l.row-index l.left)) ≡ rows_in (join first_key first_key l.left l.fn.right);
+  faults : ascending fault_cmp (l.faults.items ++ filter_map fault_in (flat_map (joined first_key first_key l.fn.right) (drop l.row-index l.left))) ≡ own_faults (join first_key first_key l.left l.fn.right);
 }

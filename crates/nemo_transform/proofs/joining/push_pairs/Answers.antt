@@ -1,7 +1,7 @@
 use Rattle.std.proofs.Common.{◌++◌, ◌∷◌, [], ◌∙◌, ap, sym, length, arith}
 use Rattle.nemo_transform.specs.Gives.{is_filled}
 use Rattle.nemo_transform.proofs.JoinSteps.{exceeds, faults_kept, filled, fits, rows_kept, rows_passed, width}
-use Rattle.nemo_transform.proofs.joining.push_pairs.Goals.{then-len-le-MAX_FIELDS+in_ok-paired+in_ok-push, else-len-le-MAX_FIELDS}
+use Rattle.nemo_transform.proofs.joining.push_pairs.Goals.{then-fields-le-MAX_FIELDS+in_ok-push_pair, else-fields-le-MAX_FIELDS}
 use Rattle.nemo_transform.proofs.joining.push_pairs.Goals as goal
 
 pub loop-other-preserved : goal.loop-other-preserved
@@ -13,15 +13,15 @@ loop-other-preserved c =
     let w = width l r.now c.fields-in-loop-other.ensures.some in
     let own = ap length c.fields.ensures.fields in
     let other = ap length c.fields-in-loop-other.ensures.fields in
-    elim c.if-len-le-MAX_FIELDS.branch [
-      | then-len-le-MAX_FIELDS+in_ok-paired+in_ok-push b ↦
-          let p = fits l r.now (omega (arith, b.if-len-le-MAX_FIELDS.true)) in
+    elim c.if-fields-le-MAX_FIELDS.branch [
+      | then-fields-le-MAX_FIELDS+in_ok-push_pair b ↦
+          let p = fits l r.now (omega (arith, b.if-fields-le-MAX_FIELDS.true)) in
           record {
-            rows = rows_kept l rs i r c.loop-other-test.true c.other-item.is c.loop-other.rows _ _ _ p (b.rows-is ∙ b.in_ok-push.ensures.ok ∙ ap (λ x. c.loop-other.rows ++ x ∷ []) b.in_ok-paired.ensures) c.loop-other.invariant.rows;
+            rows = rows_kept l rs i r c.loop-other-test.true c.other-item.is c.loop-other.rows _ _ _ p (b.rows-is ∙ b.in_ok-push_pair.ensures) c.loop-other.invariant.rows;
             wide = b.wide-is ∙ c.loop-other.invariant.wide ∙ ap is_filled (sym (faults_kept l rs i r c.loop-other-test.true c.other-item.is _ p));
           }
-      | else-len-le-MAX_FIELDS b ↦
-          let p = exceeds l r.now (omega (arith, b.if-len-le-MAX_FIELDS.false)) in
+      | else-fields-le-MAX_FIELDS b ↦
+          let p = exceeds l r.now (omega (arith, b.if-fields-le-MAX_FIELDS.false)) in
           record {
             rows = rows_passed l rs i r c.loop-other-test.true c.other-item.is c.loop-other.rows _ _ p b.rows-is c.loop-other.invariant.rows;
             wide = b.wide-is ∙ filled l rs i r c.loop-other-test.true c.other-item.is p;

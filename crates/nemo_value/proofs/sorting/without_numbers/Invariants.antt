@@ -1,6 +1,6 @@
 use Rattle.std.proofs.Common.{◌≡◌}
-use Rattle.nemo_value.proofs.sorting.records_of.Given as goal
+use Rattle.nemo_value.proofs.sorting.without_numbers.Given as goal
 
 -- the records so far are those that were taken
 abbrev pub invariant-loop-row : goal.invariant-loop-row
-invariant-loop-row l = l.rows ≡ l.yielded
+invariant-loop-row l = l.rows.items ≡ l.yielded
