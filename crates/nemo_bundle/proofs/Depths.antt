@@ -8,12 +8,13 @@ use Rattle.nemo_value.specs.Texts.{same_text}
 use Rattle.nemo_transform.specs.declared.transform.Transform.{Transform}
 use Rattle.nemo_job.specs.declared.vertex.JobVertex.{JobVertex}
 use Rattle.nemo_job.specs.declared.vertex.Ref.{Ref}
+use Rattle.nemo_job.specs.declared.vertex.Work.{Work}
 use Rattle.nemo_read.specs.Operations.{operation_of}
 use Rattle.nemo_read.specs.Parts.{array_of, member_of, name_of, whole_of}
-use Rattle.nemo_read.specs.Vertices.{Form, Does, Loops, Head, LoopForm, body_of, form_by, head_named, head_of, head_with, inputs_of, loop_of, loop_with, ref_of, transform_of}
+use Rattle.nemo_read.specs.Vertices.{Form, Does, Loops, Head, LoopForm, body_of, form_by, head_named, head_of, head_with, inputs_of, loop_of, loop_with, ref_of, transform_of, work_around}
 use Rattle.nemo_bundle.specs.Answers.{Walks, on_ok}
-use Rattle.nemo_bundle.specs.Ends.{around_read}
-use Rattle.nemo_bundle.specs.Vertices.{Walk, Walked, in_front, vertex_at, vertex_by, vertex_from, vertex_within, walk, with_body}
+use Rattle.nemo_bundle.specs.Ends.{vertex_read}
+use Rattle.nemo_bundle.specs.Vertices.{Walk, Walked, in_front, vertex_at, vertex_by, vertex_from, vertex_within, walk, with_body, work_by}
 use Rattle.nemo_bundle.specs.declared.end.WalkEnd.{WalkEnd}
 use Rattle.nemo_bundle.specs.declared.end.WalkEnd.TheVariants as end
 
@@ -152,16 +153,25 @@ level_at (suc n) i d e = from_same (vertex_within n) vertex_at n (λ j f h. sym 
 pub vertex_level : (i : ℕ) (d : Data) → vertex_at i d ≡ vertex_from vertex_at i (head_of d)
 vertex_level i d = level_at (depth d) i d refl
 
--- where the body isn't read, the vertex isn't
-ends_on : (r : Walk (List JobVertex)) (k : Walked (List JobVertex) → Walk JobVertex) (e : WalkEnd) (f : List JobVertex → Walked (List JobVertex)) (g : JobVertex → Walked JobVertex)
-    → Walks {X = List JobVertex} {Y = Walked (List JobVertex)} f (Err e) r → Walks {X = JobVertex} {Y = Walked JobVertex} g (Err e) (on_ok r k)
+-- a vertex is read as its work is
+abbrev with_work : Head → Walked Work → Walk JobVertex
+with_work h w = Ok (record { made = record { name = h.name; work = w.made; inputs = h.inputs }; next = w.next })
+
+by_work : (h : Walked Head) → vertex_by vertex_at h ≡ on_ok (work_by vertex_at h.next h.made.form) (with_work h.made)
+by_work h = go (walk vertex_at h.next (body_of h.made.form))
+  where
+    go : (r : Walk (List JobVertex)) → on_ok r (with_body h.made) ≡ on_ok (on_ok r (λ body. Ok (record { made = work_around h.made.form body.made; next = body.next }))) (with_work h.made)
+    go (Ok b) = refl
+    go (Err i) = refl
+
+ends_on : (r : Walk Work) (k : Walked Work → Walk JobVertex) (e : WalkEnd) (f : Work → Walked Work) (g : JobVertex → Walked JobVertex)
+    → Walks {X = Work} {Y = Walked Work} f (Err e) r → Walks {X = JobVertex} {Y = Walked JobVertex} g (Err e) (on_ok r k)
 ends_on (Ok w) k (end.Malformed place) f g h = absurd (let e : Ok w ≡ Err h.0 = h.1 in cc)
 ends_on (Err i) k (end.Malformed place) f g h = (h.0, (let e : Err i ≡ Err h.0 = h.1 in cc), h.2)
 ends_on r k end.NoMemory f g h = tt
 
--- a vertex is read as its body is
-pub vertex_read : (o : Walk Head) (h : Walked Head) (r : Result (List JobVertex) WalkEnd) (next : ℕ) → o ≡ Ok h
-    → Walks {X = List JobVertex} {Y = Walked (List JobVertex)} (λ vs. record { made = vs; next = next }) r (walk vertex_at h.next (body_of h.made.form))
-    → Walks {X = JobVertex} {Y = Walked JobVertex} (λ v. record { made = v; next = next }) (around_read h.made r) (on_ok o (vertex_by vertex_at))
-vertex_read o h (Ok vs) next p q = rw p (rw q refl)
-vertex_read o h (Err e) next p q = rw p (ends_on (walk vertex_at h.next (body_of h.made.form)) (with_body h.made) e (λ vs. record { made = vs; next = next }) (λ v. record { made = v; next = next }) q)
+pub vertex_walks : (o : Walk Head) (h : Walked Head) (r : Result Work WalkEnd) (next : ℕ) → o ≡ Ok h
+    → Walks {X = Work} {Y = Walked Work} (λ w. record { made = w; next = next }) r (work_by vertex_at h.next h.made.form)
+    → Walks {X = JobVertex} {Y = Walked JobVertex} (λ v. record { made = v; next = next }) (vertex_read h.made.name h.made.inputs r) (on_ok o (vertex_by vertex_at))
+vertex_walks o h (Ok w) next p q = ap (λ r. on_ok r (vertex_by vertex_at)) p ∙ by_work h ∙ ap (λ r. on_ok r (with_work h.made)) q
+vertex_walks o h (Err e) next p q = rw (p, by_work h) (ends_on (work_by vertex_at h.next h.made.form) (with_work h.made) e (λ w. record { made = w; next = next }) (λ v. record { made = v; next = next }) q)

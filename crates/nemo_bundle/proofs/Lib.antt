@@ -1,3 +1,4 @@
+pub mod Beside
 pub mod Chosen
 pub mod Depths
 pub mod FittingSites

@@ -5,7 +5,8 @@ use Rattle.nemo_flat.specs.declared.copies.FlattenRefused.TheVariants as flat
 use Rattle.nemo_job.specs.declared.job.JobRefused.{JobRefused}
 use Rattle.nemo_job.specs.declared.job.JobRefused.TheVariants as job
 use Rattle.nemo_job.specs.declared.vertex.JobVertex.{JobVertex}
-use Rattle.nemo_read.specs.Vertices.{Head, vertex_around}
+use Rattle.nemo_job.specs.declared.vertex.Ref.{Ref}
+use Rattle.nemo_job.specs.declared.vertex.Work.{Work}
 use Rattle.nemo_read.specs.declared.end.PartEnd.{PartEnd}
 use Rattle.nemo_read.specs.declared.end.PartEnd.TheVariants as part
 use Rattle.nemo_bundle.specs.declared.end.BundleEnd.{BundleEnd}
@@ -48,10 +49,10 @@ abbrev pub coded : {X : Type 0} → Code → Result X WalkEnd → Result X Bundl
 coded code (Ok x) = Ok x
 coded code (Err e) = Err (end_with code e)
 
--- the vertex of a head with its body, where that was read
-abbrev pub around_read : Head → Result (List JobVertex) WalkEnd → Result JobVertex WalkEnd
-around_read h (Ok body) = Ok (vertex_around h body)
-around_read h (Err e) = Err e
+-- the vertex of this name and these inputs, where what it does was read
+abbrev pub vertex_read : List ℕ → List Ref → Result Work WalkEnd → Result JobVertex WalkEnd
+vertex_read name inputs (Ok work) = Ok (record { name = name; work = work; inputs = inputs })
+vertex_read name inputs (Err e) = Err e
 
 abbrev pub end_of_job : JobRefused → BundleEnd
 end_of_job (job.Refused code place) = Refused code place

@@ -66,10 +66,20 @@ bundle_with vs m = record {
 abbrev pub accepted_job : Data → Result (List JobVertex) Refusal
 accepted_job d = if has_version d then on_ok (job_of d) (λ vs. accepted vs (refusal_of vs)) else Err (refused Top 0)
 
+-- codes 9 to 15: the bundle of this job
+abbrev pub bundle_beside : Data → List JobVertex → Result Bundle Refusal
+bundle_beside d vs = on_ok (counted vs) (λ _. on_ok (members_of d (flattened vs).vertices) (λ m. Ok (bundle_with vs m)))
+
 -- the first code that fails
 abbrev pub bundle_of : Data → Result Bundle Refusal
-bundle_of d = on_ok (accepted_job d) (λ vs. on_ok (counted vs) (λ _. on_ok (members_of d (flattened vs).vertices) (λ m. Ok (bundle_with vs m))))
+bundle_of d = on_ok (accepted_job d) (bundle_beside d)
 
 -- its job
+abbrev pub job_of_bundle : Result Bundle Refusal → Result (List JobVertex) Refusal
+job_of_bundle r = on_ok r (λ b. Ok b.job)
+
+abbrev pub job_beside : Data → List JobVertex → Result (List JobVertex) Refusal
+job_beside d vs = job_of_bundle (bundle_beside d vs)
+
 abbrev pub job_in : Data → Result (List JobVertex) Refusal
-job_in d = on_ok (bundle_of d) (λ b. Ok b.job)
+job_in d = job_of_bundle (bundle_of d)

@@ -2,7 +2,8 @@
 use Rattle.std.specs.Prelude.{ℕ, zero, suc, ◌+◌, List, [], ◌∷◌, Option, Some, None, Result, Ok, Err}
 use Rattle.serde_json.specs.Data.{Data, Items, no_items, item, depth}
 use Rattle.nemo_job.specs.declared.vertex.JobVertex.{JobVertex}
-use Rattle.nemo_read.specs.Vertices.{Head, body_of, head_of, vertex_around}
+use Rattle.nemo_job.specs.declared.vertex.Work.{Work}
+use Rattle.nemo_read.specs.Vertices.{Form, Head, body_of, head_of, vertex_around, work_around}
 use Rattle.nemo_bundle.specs.Answers.{on_ok}
 
 -- what is read, and the number of the next vertex: vertices are counted in list order, a loop before its body
@@ -32,6 +33,10 @@ module _ (reads : ℕ → Data → Walk JobVertex) where
   abbrev pub walk : ℕ → Items → Walk (List JobVertex)
   walk i no_items = Ok (record { made = []; next = i })
   walk i (item d ds) = on_ok (reads i d) (λ v. on_ok (walk v.next ds) (in_front v.made))
+
+  -- what a vertex does, with the vertices of the body from number i on
+  abbrev pub work_by : ℕ → Form → Walk Work
+  work_by i form = on_ok (walk i (body_of form)) (λ body. Ok (record { made = work_around form body.made; next = body.next }))
 
   -- the vertex of a head, whose body is counted behind it
   abbrev pub vertex_by : Walked Head → Walk JobVertex

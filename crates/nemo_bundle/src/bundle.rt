@@ -8,6 +8,7 @@ ghost use Rattle.nemo_flat.specs.Flattened.{flattened};
 ghost use Rattle.nemo_ir.specs.declared.flat.FlatVertex.{FlatVertex};
 ghost use Rattle.nemo_job.specs.Chain.{has_fields};
 ghost use Rattle.nemo_job.specs.Fitting.{are_fitting};
+ghost use Rattle.nemo_read.specs.Parts.{KeepsOthers};
 ghost use Rattle.nemo_bundle.specs.Answers.{Gives};
 ghost use Rattle.nemo_bundle.specs.Read.{bundle_of, job_in, job_of};
 ghost use Rattle.nemo_bundle.specs.Read as spec;
@@ -22,6 +23,7 @@ use nemo_base::{Move, Policy, ScriptLine, Settings};
 use nemo_flat::{FlattenRefused, check_copies, flat_vertices, flatten};
 use nemo_ir::{FlatJob, FlatVertex, IrDag};
 use nemo_job::{Job, JobVertex};
+use nemo_read::take_member;
 use nemo_value::List;
 use serde_json::Value;
 use std::alloc::Global;
@@ -41,15 +43,27 @@ pub struct Bundle {
 }
 
 /// The bundle that a JSON value stands for, or the refusal of the first code that fails anywhere, with its least place.
-pub fn read_bundle(alloc: Global, value: &Value) -> Result<Bundle, BundleEnd>
-    ensures bundle { Gives result (bundle_of (view value.now)) }
+pub fn read_bundle(alloc: Global, mut value: Value) -> Result<Bundle, BundleEnd>
+    ensures bundle { Gives result (bundle_of (view value)) }
     ensures tasks { IfOk result (λ b. (1 ≤ b.parallelism) × (b.parallelism ≤ 64)) }
     ensures script { IfOk result (λ b. IsScript b.settings b.script) }
     ensures filled { IfOk result (λ b. list_all has_fields b.job ≡ true) }
     ensures flat { IfOk result (λ b. b.flat ≡ flattened b.job) }
+    ensures given { IfOk result (λ b. is_some b.dag ≡ is_some (get (codes "dag") (view value))) }
+{
+    let job = accepted_job(alloc, &mut value)?;
+    bundle_beside(alloc, job, &value)
+}
+
+/// The bundle of a job and the members beside it, or the refusal of codes 9 to 15.
+fn bundle_beside(alloc: Global, job: Job, value: &Value) -> Result<Bundle, BundleEnd>
+    ensures bundle { Gives result (spec.bundle_beside (view value.now) job) }
+    ensures job { IfOk result (λ b. b.job ≡ job) }
+    ensures tasks { IfOk result (λ b. (1 ≤ b.parallelism) × (b.parallelism ≤ 64)) }
+    ensures script { IfOk result (λ b. IsScript b.settings b.script) }
+    ensures flat { IfOk result (λ b. b.flat ≡ flattened b.job) }
     ensures given { IfOk result (λ b. is_some b.dag ≡ is_some (get (codes "dag") (view value.now))) }
 {
-    let job = accepted_job(alloc, value)?;
     let flat = flatten(alloc, &job)?;
     let Members {
         choices,
@@ -76,10 +90,17 @@ pub fn read_bundle(alloc: Global, value: &Value) -> Result<Bundle, BundleEnd>
 
 /// The job of the bundle that a JSON value stands for, or the same refusal. It makes no flat job, which has copies of the
 /// job's transforms and so of the rows of its sources, and unrolls loops only for a DAG that names their copies.
-pub fn read_job(alloc: Global, value: &Value) -> Result<Job, BundleEnd>
-    ensures job { Gives result (job_in (view value.now)) }
+pub fn read_job(alloc: Global, mut value: Value) -> Result<Job, BundleEnd>
+    ensures job { Gives result (job_in (view value)) }
 {
-    let job = accepted_job(alloc, value)?;
+    let job = accepted_job(alloc, &mut value)?;
+    job_beside(alloc, job, &value)
+}
+
+/// The job again, where the members beside it make a bundle with it, or the refusal of codes 9 to 15.
+fn job_beside(alloc: Global, job: Job, value: &Value) -> Result<Job, BundleEnd>
+    ensures { Gives result (spec.job_beside (view value.now) job) }
+{
     let named = named_vertices(alloc, value, &job)?;
     read_members(alloc, value, named.as_slice())?;
     Ok(job)
@@ -105,15 +126,16 @@ fn named_vertices(
     }
 }
 
-/// The job, or the refusal of codes 1 to 8.
-fn accepted_job(alloc: Global, value: &Value) -> Result<Job, BundleEnd>
-    ensures job { Gives result (spec.accepted_job (view value.now)) }
+/// The job, or the refusal of codes 1 to 8. It takes the member `job` out of the value, and leaves the others.
+fn accepted_job(alloc: Global, value: &mut Value) -> Result<Job, BundleEnd>
+    ensures job { Gives result (spec.accepted_job (view value.old)) }
     ensures filled { IfOk result (λ job. list_all has_fields job ≡ true) }
+    ensures others { KeepsOthers (codes "job") (view value.old) (view value.new) }
 {
     if !has_version(value) {
         return Err(Code::Top.at(0));
     }
-    let vertices = read_list(alloc, value)?;
+    let vertices = take_list(alloc, value)?;
     Ok(Job::new(alloc, vertices.into_vec())?)
 }
 
@@ -127,18 +149,18 @@ fn has_version(value: &Value) -> bool
     value.get("nemo").and_then(Value::as_i64) == Some(VERSION)
 }
 
-/// The vertices of `job`.
-fn read_list(alloc: Global, value: &Value) -> Result<List<JobVertex>, BundleEnd>
-    ensures job { Gives result (job_of (view value.now)) }
+/// The vertices of `job`, which is taken out of the value.
+fn take_list(alloc: Global, value: &mut Value) -> Result<List<JobVertex>, BundleEnd>
+    ensures job { Gives result (job_of (view value.old)) }
     ensures fitting { IfOk result (λ vs. are_fitting vs ≡ true) }
     ensures filled { IfOk result (λ vs. list_all has_fields vs ≡ true) }
+    ensures others { KeepsOthers (codes "job") (view value.old) (view value.new) }
 {
-    let items = value
-        .get("job")
-        .and_then(Value::as_array)
-        .ok_or(Code::VertexShape.at(0))?;
+    let Some(Value::Array(items)) = take_member(value, "job") else {
+        return Err(Code::VertexShape.at(0));
+    };
     let mut count = 0;
-    let vertices = read_vertices(alloc, items.as_slice(), &mut count, MAX_DEPTH);
+    let vertices = read_vertices(alloc, items, &mut count, MAX_DEPTH);
     coded(Code::VertexShape, vertices)
 }
 

@@ -1,15 +1,15 @@
 ghost use Rattle.std.specs.Prelude.{◌≡◌};
 ghost use Rattle.serde_json.specs.View.{view, items_view};
 ghost use Rattle.nemo_bundle.specs.Answers.{Walks};
-ghost use Rattle.nemo_bundle.specs.Ends.{around_read};
+ghost use Rattle.nemo_bundle.specs.Ends.{vertex_read};
 ghost use Rattle.nemo_bundle.specs.Vertices as spec;
 ghost use Rattle.nemo_read.specs.Heads.{form_view, head_view};
-ghost use Rattle.nemo_read.specs.Vertices.{body_of, head_of};
+ghost use Rattle.nemo_read.specs.Vertices.{head_of};
 
 use crate::end::{WalkEnd, placed};
-use nemo_job::JobVertex;
-use nemo_read::{Form, Head, read_head};
-use nemo_value::List;
+use nemo_job::{JobVertex, Ref, Work};
+use nemo_read::{Form, Head, LoopForm, read_head};
+use nemo_value::{Items, List, Name};
 use serde_json::Value;
 use std::alloc::Global;
 
@@ -24,11 +24,11 @@ pub(crate) const MAX_DEPTH: u32 = 64;
 #[cycle(walk)]
 pub(crate) fn read_vertices(
     alloc: Global,
-    items: &[Value],
+    items: Vec<Value>,
     count: &mut u64,
     depth: u32,
 ) -> Result<List<JobVertex>, WalkEnd>
-    ensures { Walks (λ vs. record { made = vs; next = count.new }) result (spec.walk spec.vertex_at count.old (items_view items.now)) }
+    ensures { Walks (λ vs. record { made = vs; next = count.new }) result (spec.walk spec.vertex_at count.old (items_view items.items)) }
 {
     let mut list = List::with_capacity(alloc, items.len())?;
     for value in items {
@@ -41,51 +41,63 @@ pub(crate) fn read_vertices(
 #[cycle(walk)]
 fn read_vertex(
     alloc: Global,
-    value: &Value,
+    value: Value,
     count: &mut u64,
     depth: u32,
 ) -> Result<JobVertex, WalkEnd>
-    ensures { Walks (λ v. record { made = v; next = count.new }) result (spec.vertex_at count.old (view value.now)) }
+    ensures { Walks (λ v. record { made = v; next = count.new }) result (spec.vertex_at count.old (view value)) }
 {
-    let head = next_head(alloc, value, count)?;
-    let body = read_body(alloc, &head.form, count, depth);
-    with_body(head, body)
+    let Head { name, inputs, form } = next_head(alloc, value, count)?;
+    let work = read_work(alloc, form, count, depth);
+    with_work(name, inputs, work)
 }
 
-/// The vertex of a head with its body, where that was read.
-fn with_body(head: Head<'_>, body: Result<List<JobVertex>, WalkEnd>) -> Result<JobVertex, WalkEnd>
-    ensures { result ≡ around_read (head_view head.entry) body }
+/// The vertex of this name and these inputs, where what it does was read.
+fn with_work(
+    name: Name,
+    inputs: List<Ref>,
+    work: Result<Work, WalkEnd>,
+) -> Result<JobVertex, WalkEnd>
+    ensures { result ≡ vertex_read name inputs work }
 {
-    match body {
-        Ok(body) => Ok(head.around(body)),
+    match work {
+        Ok(work) => Ok(JobVertex { name, work, inputs }),
         Err(end) => Err(end),
     }
 }
 
-/// The vertices of the body, of which an operation has none.
+/// What a vertex does, with the vertices of the body if it is a loop.
 #[cycle(walk)]
-fn read_body(
-    alloc: Global,
-    form: &Form<'_>,
-    count: &mut u64,
-    depth: u32,
-) -> Result<List<JobVertex>, WalkEnd>
-    ensures { Walks (λ vs. record { made = vs; next = count.new }) result (spec.walk spec.vertex_at count.old (body_of (form_view form.now))) }
+fn read_work(alloc: Global, form: Form, count: &mut u64, depth: u32) -> Result<Work, WalkEnd>
+    ensures { Walks (λ w. record { made = w; next = count.new }) result (spec.work_by spec.vertex_at count.old (form_view form)) }
 {
     match form {
-        Form::Does(_) => Ok(List::new(alloc)),
-        Form::Loops(members) => {
+        Form::Does(transform) => Ok(Work::Op(transform)),
+        Form::Loops(
+            LoopForm {
+                turns,
+                carry,
+                body,
+                next,
+            },
+        ) => {
             if depth == 0 {
                 return Err(WalkEnd::NoMemory);
             }
-            read_vertices(alloc, members.body, count, depth - 1)
+            let body = read_vertices(alloc, body, count, depth - 1)?;
+            Ok(Work::Loop {
+                turns,
+                carry,
+                body: Items::from_vec(body.into_vec()),
+                next,
+            })
         }
     }
 }
 
 /// The head of the next vertex.
-fn next_head<'a>(alloc: Global, value: &'a Value, count: &mut u64) -> Result<Head<'a>, WalkEnd>
-    ensures { Walks (λ h. record { made = head_view h; next = count.new }) result (spec.numbered count.old (head_of (view value.now))) }
+fn next_head(alloc: Global, value: Value, count: &mut u64) -> Result<Head, WalkEnd>
+    ensures { Walks (λ h. record { made = head_view h; next = count.new }) result (spec.numbered count.old (head_of (view value))) }
 {
     let head = placed(*count, read_head(alloc, value))?;
     *count = count.checked_add(1).ok_or(WalkEnd::NoMemory)?;

@@ -8,7 +8,7 @@ use Rattle.nemo_read.specs.declared.head.LoopForm.{LoopForm}
 
 -- the members of a loop, with the items of its body as values
 abbrev pub loop_view : LoopForm → spec.LoopForm
-loop_view l = record { turns = l.turns; carry = l.carry; body = items_view l.body.now; next = l.next }
+loop_view l = record { turns = l.turns; carry = l.carry; body = items_view l.body.items; next = l.next }
 
 abbrev pub form_view : Form → spec.Form
 form_view (Does t) = spec.Does t

@@ -1,5 +1,5 @@
 -- What JSON values stand for: arrays, members, fields, records and names.
-use Rattle.std.specs.Prelude.{ℕ, ℤ, pos, negsuc, ◌^◌, nat_lt, ◌&&◌, Bool, false, nat_le, if◌then◌else◌, List, [], ◌∷◌, length, Option, Some, None, option_map, option_and_then}
+use Rattle.std.specs.Prelude.{◌≡◌, ℕ, ℤ, pos, negsuc, ◌^◌, nat_lt, ◌&&◌, Bool, false, nat_le, if◌then◌else◌, List, [], ◌∷◌, length, Option, Some, None, option_map, option_and_then}
 use Rattle.std.specs.Option.{option_or}
 use Rattle.std.specs.Ordering.{int_eq}
 use Rattle.serde_json.specs.Data.{Data, Items, no_items, item}
@@ -29,6 +29,10 @@ array_of reads d = option_and_then (each reads) (as_array d)
 -- what the member of this name stands for, where it is there
 abbrev pub member_of : {X : Type 0} → List ℕ → (Data → Option X) → Data → Option X
 member_of name reads d = option_and_then reads (get name d)
+
+-- e has each member that d has beside that of this name
+abbrev pub KeepsOthers : List ℕ → Data → Data → Type 0
+KeepsOthers name d e = (k : List ℕ) → ¬ (k ≡ name) → get k e ≡ get k d
 
 -- a thing that passes the test
 abbrev pub tested : {X : Type 0} → (X → Bool) → Option X → Option X

@@ -11,101 +11,53 @@ use crate::end::PartEnd;
 use crate::operation::Operation;
 use crate::read::read_member;
 use crate::reference::read_inputs;
+use crate::take::take_array;
 use crate::transform::{
     read_emit, read_filter, read_map, read_reduce, read_source, read_words, union_of,
 };
-use nemo_job::{JobVertex, Ref, Work};
+use nemo_job::Ref;
 use nemo_transform::Transform;
-use nemo_value::{Items, List, Name, TryCopy};
+use nemo_value::{List, Name, TryCopy};
 use serde_json::Value;
 use std::alloc::Global;
 
 /// A vertex before the body of its loop is read.
 #[derive(Drop)]
-pub struct Head<'a> {
+pub struct Head {
     pub name: Name,
     pub inputs: List<Ref>,
-    pub form: Form<'a>,
+    pub form: Form,
 }
 
 /// What a vertex does.
 #[derive(Drop)]
-pub enum Form<'a> {
+pub enum Form {
     Does(Transform),
-    Loops(LoopForm<'a>),
+    Loops(LoopForm),
 }
 
 /// The members of a loop, with the items of its body.
 #[derive(Drop)]
-pub struct LoopForm<'a> {
+pub struct LoopForm {
     pub turns: u32,
     pub carry: List<Name>,
-    pub body: &'a [Value],
+    pub body: Vec<Value>,
     pub next: List<Ref>,
 }
 
-impl Head<'_> {
-    /// The vertex, with these vertices as its body if it is a loop.
-    pub fn around(self, body: List<JobVertex>) -> JobVertex
-        ensures { result ≡ spec.vertex_around (head_view self.entry) body }
-    {
-        let Head { name, inputs, form } = self;
-        JobVertex {
-            name,
-            work: form.around(body),
-            inputs,
-        }
-    }
-}
-
-impl Form<'_> {
-    fn around(self, body: List<JobVertex>) -> Work
-        ensures { result ≡ spec.work_around (form_view self.entry) body }
-    {
-        match self {
-            Form::Does(transform) => Work::Op(transform),
-            Form::Loops(members) => members.around(body),
-        }
-    }
-}
-
-impl LoopForm<'_> {
-    fn around(self, body: List<JobVertex>) -> Work
-        ensures { result ≡ spec.loop_around (loop_view self.entry) body }
-    {
-        let LoopForm {
-            turns,
-            carry,
-            body: _,
-            next,
-        } = self;
-        Work::Loop {
-            turns,
-            carry,
-            body: Items::from_vec(body.into_vec()),
-            next,
-        }
-    }
-}
-
 /// An object with `name`, `op` and the members of its op, and mostly `in`.
-pub fn read_head<'a>(alloc: Global, value: &'a Value) -> Result<Head<'a>, PartEnd>
-    ensures { ReadsAs head_view result (spec.head_of (view value.now)) }
+pub fn read_head(alloc: Global, value: Value) -> Result<Head, PartEnd>
+    ensures { ReadsAs head_view result (spec.head_of (view value)) }
 {
-    let name: Name = read_member(alloc, value, "name")?;
-    let inputs = read_inputs(alloc, value)?;
+    let name: Name = read_member(alloc, &value, "name")?;
+    let inputs = read_inputs(alloc, &value)?;
     let form = read_form(alloc, &name, inputs.len(), value)?;
     Ok(Head { name, inputs, form })
 }
 
 /// What a vertex of this name and this many inputs does.
-fn read_form<'a>(
-    alloc: Global,
-    name: &Name,
-    inputs: usize,
-    value: &'a Value,
-) -> Result<Form<'a>, PartEnd>
-    ensures { ReadsAs form_view result (option_and_then (spec.form_by name.now inputs (view value.now)) (member_of (codes "op") as_str (view value.now))) }
+fn read_form(alloc: Global, name: &Name, inputs: usize, value: Value) -> Result<Form, PartEnd>
+    ensures { ReadsAs form_view result (option_and_then (spec.form_by name.now inputs (view value)) (member_of (codes "op") as_str (view value))) }
 {
     let word = value
         .get("op")
@@ -125,18 +77,18 @@ fn read_transform(
     operation: Operation,
     name: &Name,
     inputs: usize,
-    value: &Value,
+    value: Value,
 ) -> Result<Transform, PartEnd>
-    ensures { Reads result (spec.transform_of name.now inputs (view value.now) operation) }
+    ensures { Reads result (spec.transform_of name.now inputs (view value) operation) }
 {
     match operation {
         Operation::Source => read_source(alloc, value),
-        Operation::Map => read_map(alloc, value),
-        Operation::Filter => read_filter(alloc, value),
-        Operation::Emit => read_emit(alloc, value),
-        Operation::Words => read_words(alloc, value),
+        Operation::Map => read_map(alloc, &value),
+        Operation::Filter => read_filter(alloc, &value),
+        Operation::Emit => read_emit(alloc, &value),
+        Operation::Words => read_words(alloc, &value),
         Operation::Union => union_of(inputs),
-        Operation::Reduce => read_reduce(alloc, value),
+        Operation::Reduce => read_reduce(alloc, &value),
         Operation::Distinct => Ok(Transform::Distinct),
         Operation::Join => Ok(Transform::Join),
         Operation::SideJoin => Ok(Transform::SideJoin),
@@ -154,20 +106,17 @@ fn sink_of(alloc: Global, name: &Name) -> Result<Transform, PartEnd>
 }
 
 /// The members of a loop.
-fn read_loop<'a>(alloc: Global, value: &'a Value) -> Result<LoopForm<'a>, PartEnd>
-    ensures { ReadsAs loop_view result (spec.loop_of (view value.now)) }
+fn read_loop(alloc: Global, mut value: Value) -> Result<LoopForm, PartEnd>
+    ensures { ReadsAs loop_view result (spec.loop_of (view value)) }
 {
-    let turns = read_turns(value)?;
-    let body = value
-        .get("body")
-        .and_then(Value::as_array)
-        .ok_or(PartEnd::Malformed)?;
-    let carry = read_member(alloc, value, "carry")?;
-    let next = read_member(alloc, value, "next")?;
+    let turns = read_turns(&value)?;
+    let carry = read_member(alloc, &value, "carry")?;
+    let next = read_member(alloc, &value, "next")?;
+    let body = take_array(&mut value, "body")?;
     Ok(LoopForm {
         turns,
         carry,
-        body: body.as_slice(),
+        body,
         next,
     })
 }

@@ -10,6 +10,7 @@ mod number;
 mod operation;
 mod read;
 mod reference;
+mod take;
 mod transform;
 
 pub use call::{Call, is_word};
@@ -17,3 +18,4 @@ pub use end::PartEnd;
 pub use head::{Form, Head, LoopForm, read_head};
 pub use number::read_ranged;
 pub use read::{FromJson, read_member};
+pub use take::take_member;

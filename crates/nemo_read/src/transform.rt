@@ -7,6 +7,7 @@ ghost use Rattle.nemo_read.specs.Vertices as spec;
 use crate::end::PartEnd;
 use crate::number::read_place;
 use crate::read::{FromJson, read_member};
+use crate::take::{take_array, take_rows};
 use nemo_transform::{Folding, Output, Transform};
 use nemo_value::{Expr, List};
 use serde_json::Value;
@@ -16,11 +17,12 @@ use std::alloc::Global;
 const MAX_OUT: usize = 16;
 
 /// A source with the rows of `rows`.
-pub(crate) fn read_source(alloc: Global, value: &Value) -> Result<Transform, PartEnd>
-    ensures { Reads result (spec.source_of (view value.now)) }
+pub(crate) fn read_source(alloc: Global, mut value: Value) -> Result<Transform, PartEnd>
+    ensures { Reads result (spec.source_of (view value)) }
 {
+    let rows = take_array(&mut value, "rows")?;
     Ok(Transform::Source {
-        rows: read_member(alloc, value, "rows")?,
+        rows: take_rows(alloc, rows)?,
     })
 }
 

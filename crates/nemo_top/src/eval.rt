@@ -1,7 +1,5 @@
 ghost use Rattle.std.specs.Prelude.{◌≡◌, ℕ, List, [], Ok, IfOk, IfErr};
 ghost use Rattle.serde_json.specs.View.{view};
-ghost use Rattle.nemo_bundle.specs.Answers.{Gives};
-ghost use Rattle.nemo_bundle.specs.Read.{job_in};
 ghost use Rattle.nemo_job.specs.Ends.{IsEndOf};
 ghost use Rattle.nemo_job.specs.Sinks.{job_faults, job_rows};
 ghost use Rattle.nemo_top.specs.Answers.{Leads};
@@ -12,28 +10,21 @@ ghost use Rattle.nemo_top.specs.declared.word.Command.{Command};
 use crate::reached::{Reached, done};
 use crate::status::Status;
 use crate::texts::done_text;
-use nemo_bundle::{BundleEnd, read_job};
+use nemo_bundle::read_job;
 use nemo_job::{Job, JobEnd, eval_job};
 use nemo_value::{List, SinkRows};
 use serde_json::Value;
 use std::alloc::Global;
 
-/// Evaluates the job of the bundle that a value stands for. The value goes before the job is evaluated, and the job before
-/// its sinks are printed.
+/// Evaluates the job of the bundle that a value stands for. The value goes while its job is read, and the job before its
+/// sinks are printed.
 pub(crate) fn eval(alloc: Global, value: Value) -> Result<Reached, Status>
     ensures { (bytes : List ℕ) → IsJson bytes (view value) → Reaches result (Leads Command.Eval bytes) }
 {
-    let job = job_of(alloc, value)?;
+    let job = read_job(alloc, value)?;
     let sinks = sinks_of(alloc, job)?;
     let text = done_text(alloc, &sinks)?;
     Ok(done(alloc, text))
-}
-
-/// The job of a bundle.
-fn job_of(alloc: Global, value: Value) -> Result<Job, BundleEnd>
-    ensures { Gives result (job_in (view value)) }
-{
-    read_job(alloc, &value)
 }
 
 /// What a job gives to its sinks, or its first fault.

@@ -27,9 +27,10 @@ pub(crate) fn read_served(alloc: Global, value: Value) -> Result<Bundle, BundleE
     ensures bundle { Gives result (spec.served (view value) (bundle_of (view value))) }
     ensures runnable { IfOk result IsRunnable }
 {
-    match read_bundle(alloc, &value) {
+    let given = Given::of(&value);
+    match read_bundle(alloc, value) {
         Ok(bundle) => {
-            if is_served(Given::of(&value), &bundle) {
+            if is_served(given, &bundle) {
                 Ok(bundle)
             } else {
                 Err(UNSERVED)
@@ -57,7 +58,7 @@ pub(crate) fn read_checked(alloc: Global, value: Value) -> Result<Bundle, Bundle
     ensures dag { IfOk result HasDag }
 {
     if Given::of(&value).dag {
-        read_bundle(alloc, &value)
+        read_bundle(alloc, value)
     } else {
         read_served(alloc, value)
     }
