@@ -42,7 +42,8 @@ pub struct Bundle {
     pub schedule: List<Move>,
 }
 
-/// The bundle that a JSON value stands for, or the refusal of the first code that fails anywhere, with its least place.
+/// The bundle that a JSON value stands for, or the refusal of the first code that fails anywhere, with its least place. What
+/// is large in the value goes while it is read.
 pub fn read_bundle(alloc: Global, mut value: Value) -> Result<Bundle, BundleEnd>
     ensures bundle { Gives result (bundle_of (view value)) }
     ensures tasks { IfOk result (λ b. (1 ≤ b.parallelism) × (b.parallelism ≤ 64)) }

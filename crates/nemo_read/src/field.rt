@@ -1,6 +1,6 @@
 use crate::end::PartEnd;
 use crate::read::{FromJson, owned};
-use nemo_value::{Field, List, Name, Record, Text};
+use nemo_value::{Field, Name, Text};
 use serde_json::Value;
 use std::alloc::Global;
 
@@ -17,17 +17,6 @@ impl FromJson for Field {
         let text = value.as_str().ok_or(PartEnd::Malformed)?;
         let text = Text::from_str(alloc, text)?.ok_or(PartEnd::Malformed)?;
         Ok(Field::Text(text))
-    }
-}
-
-/// An array of 1 to 16 fields.
-impl FromJson for Record {
-    ghost use Rattle.nemo_read.specs.Parts.{record_of};
-
-    ghost reads = { record_of };
-
-    fn from_json(alloc: Global, value: &Value) -> Result<Record, PartEnd> {
-        Record::new(List::from_json(alloc, value)?).map_err(|_| PartEnd::Malformed)
     }
 }
 
