@@ -98,7 +98,10 @@ pub fn apply(
 {
     let first = rows_of(alloc, first)?;
     let second = rows_of(alloc, second)?;
-    in_records(alloc, transformed(alloc, transform, first.as_slice(), second.as_slice())?)
+    in_records(
+        alloc,
+        transformed(alloc, transform, first.as_slice(), second.as_slice())?,
+    )
 }
 
 /// The same rows, as records.

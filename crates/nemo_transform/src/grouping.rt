@@ -19,7 +19,9 @@ ghost use Rattle.nemo_transform.specs.declared.transform.Transform.TheVariants.{
 use crate::applying::Given;
 use crate::fault::Fault;
 use crate::transform::Folding;
-use nemo_value::{EvalFault, Field, Kind, List, NoMemory, Record, Row, Table, TryCopy, sorted_rows};
+use nemo_value::{
+    EvalFault, Field, Kind, List, NoMemory, Record, Row, Table, TryCopy, sorted_rows,
+};
 use std::alloc::Global;
 use std::cmp::Ordering;
 use std::collections::{HashMap, HashSet};

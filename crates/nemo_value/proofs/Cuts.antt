@@ -58,7 +58,7 @@ module _ {A : Type 0} where
       let e = length-drop n xs in
       let size : length (drop n xs) ≡ w = omega arith in
       widths_less ws (take n xs) (drop n xs)
-          (subst (λ v. AreWidths (ws ++ v ∷ []) (take n xs ++ drop n xs)) (sym size) (subst (λ ys. AreWidths (ws ++ w ∷ []) ys) (sym (take-append-drop n xs)) h))
+      (subst (λ v. AreWidths (ws ++ v ∷ []) (take n xs ++ drop n xs)) (sym size) (subst (λ ys. AreWidths (ws ++ w ∷ []) ys) (sym (take-append-drop n xs)) h))
 
   pub parted_cut : (ws : List ℕ) (w : ℕ) (xs : List A) → AreWidths (ws ++ w ∷ []) xs
       → parted ws (take (length xs - w) xs) ≡ take (length (parted (ws ++ w ∷ []) xs) - 1) (parted (ws ++ w ∷ []) xs)
@@ -68,6 +68,6 @@ module _ {A : Type 0} where
       let e = length-drop n xs in
       let size : length (drop n xs) ≡ w = omega arith in
       let all : parted (ws ++ w ∷ []) xs ≡ parted ws (take n xs) ++ drop n xs ∷ [] =
-          subst (λ ys. parted (ws ++ w ∷ []) ys ≡ parted ws (take n xs) ++ drop n xs ∷ []) (take-append-drop n xs)
-          (subst (λ v. parted (ws ++ v ∷ []) (take n xs ++ drop n xs) ≡ parted ws (take n xs) ++ drop n xs ∷ []) size (parted_more ws (take n xs) (drop n xs) (widths_cut ws w xs h))) in
+      subst (λ ys. parted (ws ++ w ∷ []) ys ≡ parted ws (take n xs) ++ drop n xs ∷ []) (take-append-drop n xs)
+      (subst (λ v. parted (ws ++ v ∷ []) (take n xs ++ drop n xs) ≡ parted ws (take n xs) ++ drop n xs ∷ []) size (parted_more ws (take n xs) (drop n xs) (widths_cut ws w xs h))) in
       rw all (sym (front (parted ws (take n xs)) (drop n xs)))

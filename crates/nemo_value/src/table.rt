@@ -142,11 +142,7 @@ impl Table {
 }
 
 /// The rows of some widths that lie one after another in some fields.
-fn rows_in<'a>(
-    alloc: Global,
-    widths: &[u8],
-    fields: &'a [Field],
-) -> Result<Vec<Row<'a>>, NoMemory>
+fn rows_in<'a>(alloc: Global, widths: &[u8], fields: &'a [Field]) -> Result<Vec<Row<'a>>, NoMemory>
     requires { AreWidths widths.now fields.now }
     ensures { IfOk result (λ rows. rows.items ≡ parted widths.now fields.now) }
 {

@@ -38,9 +38,9 @@ returns-in_ok-rows-in_default c =
     let n = c.args.node.now in
     let inputs = c.as_slice-inputs.result.now in
     let once : (vals : List ByPlace) → answers_on vals inputs n.transform.now ≡ answers_at vals (node_of n) =
-        λ vals. answers_once vals inputs n.inputs n.transform.now c.in_default.not-Union c.as_slice-inputs.ensures in
+    λ vals. answers_once vals inputs n.inputs n.transform.now c.in_default.not-Union c.as_slice-inputs.ensures in
     let fed : (vals : List ByPlace) → Feeds vals (map known c.args.held.now) n.inputs → Feeds vals (map known c.args.held.now) inputs =
-        λ vals feeds. fed_through vals (map known c.args.held.now) inputs n.inputs c.as_slice-inputs.ensures feeds in
+    λ vals feeds. fed_through vals (map known c.args.held.now) inputs n.inputs c.as_slice-inputs.ensures feeds in
     record {
       rows = λ vals feeds. c.in_ok-rows-in_default.ensures.rows vals (fed vals feeds) ∙ ap rows_in (once vals);
       first = λ vals feeds.
