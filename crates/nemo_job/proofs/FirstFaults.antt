@@ -114,7 +114,7 @@ place_strict = record { total = place_total; one = place_one }
 pub first_fault_both : (xs ys : List (Arisen ℕ)) → first_fault (xs ++ ys) ≡ lesser place_cmp (first_fault xs) (first_fault ys)
 first_fault_both xs ys = first_of_both place_cmp place_strict xs ys
 
-self_equal : (r : Ordering) → r ≡ ordering_reverse r → r ≡ Equal
+pub self_equal : (r : Ordering) → r ≡ ordering_reverse r → r ≡ Equal
 self_equal Less h = cc
 self_equal Equal h = refl
 self_equal Greater h = cc

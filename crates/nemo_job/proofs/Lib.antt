@@ -24,9 +24,13 @@ pub mod JobEnds
 pub mod LastReaders
 pub mod Layers
 pub mod Lookups
+pub mod LineSteps
+pub mod LineValues
+pub mod Lining
 pub mod LoopCopies
 pub mod NamedSinks
 pub mod Natural
+pub mod PartsThrough
 pub mod PathsApart
 pub mod Plain
 pub mod PutFirst

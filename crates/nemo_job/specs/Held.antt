@@ -74,12 +74,10 @@ pub record IsLast (ps : List Placed) (last : List (Option ℕ)) : Type 0 where
   pub inputs : (i : ℕ) (p : Placed) (k j u : ℕ) → slice_get ps i ≡ Some p → slice_get p.inputs k ≡ Some j → slice_get last i ≡ Some (Some u) → (w : ℕ) × (slice_get last j ≡ Some (Some w)) × (i ≤ w)
   pub only : (i u : ℕ) (p : Placed) → slice_get ps i ≡ Some p → slice_get last i ≡ Some (Some u) → (does_sink p.transform ≡ true) ⊎ IsTaken ps last i u
 
--- Before the vertex of a place, what each vertex that reaches a sink gave is held: its first fault, and its rows as
--- long as they are taken.
+-- Before the vertex of a place, what each vertex that reaches a sink gave is held as long as it is taken.
 pub record IsHeld (vals : List ByPlace) (last : List (Option ℕ)) (place : ℕ) (held : List Known) : Type 0 where
   pub size : length held ≡ place
-  pub first : (k u : ℕ) (h : Known) → slice_get held k ≡ Some h → slice_get last k ≡ Some (Some u) → h.first ≡ first_fault (port vals k).faults
-  pub rows : (k u : ℕ) (h : Known) → slice_get held k ≡ Some h → slice_get last k ≡ Some (Some u) → place ≤ u → h.rows ≡ (port vals k).rows
+  pub given : (k u : ℕ) (h : Known) → slice_get held k ≡ Some h → slice_get last k ≡ Some (Some u) → place ≤ u → h ≡ known_value (port vals k)
 
 -- what the inputs gave is held
 abbrev pub Feeds : List ByPlace → List Known → List ℕ → Type 0

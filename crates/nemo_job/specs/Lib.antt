@@ -6,13 +6,16 @@ pub mod Ends
 pub mod Fitting
 pub mod Held
 pub mod HeldRows
+pub mod Lines
 pub mod Mean
 pub mod NamesBound
 pub mod Nodes
+pub mod Passed
 pub mod Paths
 pub mod Readers
 pub mod Refusals
 pub mod Sinks
 pub mod Sites
+pub mod Through
 pub mod Unrolled
 pub mod Walks

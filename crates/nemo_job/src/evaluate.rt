@@ -1,5 +1,7 @@
-ghost use Rattle.std.specs.Prelude.{◌≡◌, ◌<◌, ◌≤◌, ◌+◌, [], ◌++◌, if◌then◌else◌, None, length, map, option_map, option_to_list, true, IfOk, IfErr, OnOk};
+ghost use Rattle.std.specs.Prelude.{◌≡◌, ◌<◌, ◌≤◌, ◌+◌, [], ◌∷◌, ◌++◌, replicate, if◌then◌else◌, None, length, map, option_map, option_to_list, true, IfOk, IfErr, OnOk};
 ghost use Rattle.nemo_job.specs.HeldRows.{rows_held};
+ghost use Rattle.nemo_job.specs.Lines.{IsJoined, IsLineOf, Joins};
+ghost use Rattle.nemo_job.specs.Through.{clean};
 ghost use Rattle.nemo_value.specs.Order.{record_cmp};
 ghost use Rattle.nemo_value.specs.Sorting.{sorted};
 ghost use Rattle.nemo_value.specs.Texts.{all_new};
@@ -14,9 +16,10 @@ ghost use Rattle.nemo_value.specs.SinkOrder.{by_name, with_sorted};
 ghost use Rattle.nemo_job.specs.Unrolled.{path_in};
 
 use crate::copies::Node;
-use crate::held::{Held, Located, Rows, earlier, nothing, step};
+use crate::held::{Held, Located, Rows, earlier, line_given, nothing, step};
 use crate::job::Job;
 use crate::readers::last_readers;
+use crate::through::goes_by_row;
 use crate::unrolling::unroll;
 use nemo_transform::Transform;
 use nemo_value::{
@@ -102,10 +105,104 @@ fn held_until<'a>(
     ensures { IfOk result (λ held. IsGiven (map node_of nodes.now) (values (map node_of nodes.now)) (map known held.items)) }
 {
     let mut held = Vec::with_capacity(alloc, nodes.len())?;
-    for place in 0..nodes.len() {
-        hold(alloc, nodes, place, last, &mut held)?;
+    while held.len() < nodes.len() {
+        hold_next(alloc, nodes, last, &mut held)?;
     }
     Ok(held)
+}
+
+/// Holds what the next copy gives, or where that begins a line what the last one of this gives, behind what those before
+/// it gave.
+fn hold_next<'a>(
+    alloc: Global,
+    nodes: &[Node<'a>],
+    last: &[Option<usize>],
+    held: &mut Vec<Held<'a>>,
+) -> Result<(), NoMemory>
+    requires placed { IsPlaced (map node_of nodes.now) }
+    requires last { IsLast (map node_of nodes.now) last.now }
+    requires within { length held.old.items < length nodes.now }
+    requires held { IsHeld (values (map node_of nodes.now)) last.now (length held.old.items) (map known held.old.items) }
+    ensures held { OnOk result (IsHeld (values (map node_of nodes.now)) last.now (length held.new.items) (map known held.new.items)) }
+    ensures more { OnOk result (length held.old.items < length held.new.items) }
+    ensures within { OnOk result (length held.new.items ≤ length nodes.now) }
+{
+    let place = held.len();
+    if last[place].is_some() && goes_by_row(nodes[place].transform) {
+        let end = end_of_line(nodes, last, place);
+        hold_line(alloc, nodes, place, end, last, held)
+    } else {
+        hold(alloc, nodes, place, last, held)
+    }
+}
+
+/// The place behind a line that begins at a place: copies that go row by row, each the only one that takes what the one
+/// before it gives, and next to that.
+fn end_of_line(nodes: &[Node<'_>], last: &[Option<usize>], place: usize) -> usize
+    requires size { length last.now ≡ length nodes.now }
+    requires within { place < length nodes.now }
+    ensures more { place < result }
+    ensures within { result ≤ length nodes.now }
+    ensures joined { IsJoined nodes.now last.now place result }
+{
+    for end in place + 1..nodes.len() {
+        if !goes_on(nodes, last, end) {
+            return end;
+        }
+    }
+    nodes.len()
+}
+
+/// Whether the copy of a place goes row by row and is the only one that takes what the one before it gives.
+fn goes_on(nodes: &[Node<'_>], last: &[Option<usize>], place: usize) -> bool
+    requires size { length last.now ≡ length nodes.now }
+    requires within { place < length nodes.now }
+    requires some { 0 < place }
+    ensures { result ≡ true → Joins nodes.now last.now place }
+{
+    last[place - 1] == Some(place) && goes_by_row(nodes[place].transform)
+}
+
+/// Holds what the last copy of a line gives, which goes from a place to another one. What the others give is taken by it
+/// alone, so it isn't held.
+fn hold_line<'a>(
+    alloc: Global,
+    nodes: &[Node<'a>],
+    place: usize,
+    end: usize,
+    last: &[Option<usize>],
+    held: &mut Vec<Held<'a>>,
+) -> Result<(), NoMemory>
+    requires placed { IsPlaced (map node_of nodes.now) }
+    requires last { IsLast (map node_of nodes.now) last.now }
+    requires line { IsLineOf nodes.now last.now place end }
+    requires held { IsHeld (values (map node_of nodes.now)) last.now place (map known held.old.items) }
+    ensures { OnOk result (IsHeld (values (map node_of nodes.now)) last.now end (map known held.new.items)) }
+{
+    let line = &nodes[place..end];
+    let input = only_input(&line[0]);
+    let given = line_given(alloc, line, place, input, last, held)?;
+    push_last(held, line.len() - 1, given)?;
+    Ok(())
+}
+
+/// The only input of a copy.
+fn only_input(node: &Node<'_>) -> usize
+    requires { length node.now.inputs ≡ 1 }
+    ensures { node.now.inputs ≡ result ∷ [] }
+{
+    node.inputs.as_slice()[0]
+}
+
+/// Puts what was given behind as many others of which nothing is held.
+#[tactic(auto, using(crate::proofs::Lining::pushed_one))]
+fn push_last<'a>(held: &mut Vec<Held<'a>>, others: usize, given: Held<'a>) -> Result<(), NoMemory>
+    ensures { OnOk result (map known held.new.items ≡ (map known held.old.items ++ replicate others (clean [])) ++ known given.entry ∷ []) }
+{
+    for _ in 0..others {
+        held.push(nothing())?;
+    }
+    Ok(held.push(given)?)
 }
 
 /// Holds what the copy of a place gives, if it reaches a sink, behind what those before it gave.

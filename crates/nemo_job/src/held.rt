@@ -1,14 +1,18 @@
-ghost use Rattle.std.specs.Prelude.{◌≡◌, ◌<◌, ◌≤◌, ℕ, List as Sequence, [], ◌∷◌, All, Option, length, map, option_map, slice_get, Some, None, IfOk, OnOk, IsTrue};
+ghost use Rattle.std.specs.Prelude.{◌≡◌, ◌+◌, ◌<◌, ◌≤◌, ◌^◌, ℕ, List as Sequence, [], ◌∷◌, All, Option, length, map, option_map, slice_get, Some, None, IfOk, OnOk, IsTrue, true};
 ghost use Rattle.nemo_job.specs.HeldRows.{rows_held};
+ghost use Rattle.nemo_job.specs.Passed.{passed, transform_of};
+ghost use Rattle.nemo_job.specs.Through as spec;
+ghost use Rattle.nemo_job.specs.Through.{clean, goes_by_row};
 ghost use Rattle.nemo_transform.specs.Brought.{port, all_rows, all_faults, arisen, blocking};
 ghost use Rattle.nemo_transform.specs.Gives.{answers, is_filled, own_faults, rows_in};
 ghost use Rattle.nemo_transform.specs.Ports.{kinds_of};
 ghost use Rattle.nemo_transform.specs.Soundness.{is_sound};
 ghost use Rattle.nemo_job.specs.ByPlace.{ByPlace, first_fault};
 ghost use Rattle.nemo_transform.specs.ArisenOrder.{place_cmp};
-ghost use Rattle.nemo_job.specs.Held.{Feeds, IsReleased, answers_at, answers_on, arisen_at, known, known_value, lesser, node_of, value_at};
+ghost use Rattle.nemo_job.specs.Held.{Feeds, IsReleased, Known, answers_at, answers_on, arisen_at, known, known_value, lesser, node_of, value_at};
 
 use crate::copies::Node;
+use crate::through::{Passed, all_through};
 use nemo_transform::{Fault, Given, Transform, ports, transformed};
 use nemo_value::{Kind, List, NoMemory, Record, Row, Table, TryCopy, rows_of};
 use std::alloc::Global;
@@ -96,6 +100,52 @@ pub(crate) fn step<'a>(
             Ok(given)
         }
     }
+}
+
+/// What the last vertex of a line gives, of which the first has that place and takes that input, where these go row by
+/// row and each takes what the one before it gives. Rows that the first is the last to take are let go.
+pub(crate) fn line_given<'a>(
+    alloc: Global,
+    line: &[Node<'_>],
+    place: usize,
+    input: usize,
+    last: &[Option<usize>],
+    held: &mut Vec<Held<'a>>,
+) -> Result<Held<'a>, NoMemory>
+    requires some { 1 ≤ length line.now }
+    requires fits { place + length line.now < 2 ^ 64 }
+    requires sound { All (λ n. IsTrue (is_sound n.transform.now)) line.now }
+    requires by_row { All (λ n. goes_by_row n.transform.now ≡ true) line.now }
+    requires within { input < length held.old.items }
+    requires noted { length held.old.items ≤ length last.now }
+    ensures given { IfOk result (λ h. (k : Known) → slice_get (map known held.old.items) input ≡ Some k → known h ≡ spec.all_through place (map transform_of line.now) k) }
+    ensures released { OnOk result (IsReleased last.now place (map known held.old.items) (map known held.new.items)) }
+{
+    let source = &held[input];
+    let passed = copied(alloc, &source.first)?;
+    let made = through_held(alloc, line, place, &source.rows)?;
+    release(held, place, &[input], last);
+    Ok(Held {
+        rows: Rows::Made(made.rows),
+        first: earlier(passed, made.first),
+    })
+}
+
+/// What the vertices of a line make of rows that are held.
+fn through_held(
+    alloc: Global,
+    line: &[Node<'_>],
+    place: usize,
+    rows: &Rows<'_>,
+) -> Result<Passed, NoMemory>
+    requires some { 1 ≤ length line.now }
+    requires fits { place + length line.now < 2 ^ 64 }
+    requires sound { All (λ n. IsTrue (is_sound n.transform.now)) line.now }
+    requires by_row { All (λ n. goes_by_row n.transform.now ≡ true) line.now }
+    ensures { IfOk result (λ p. passed p ≡ spec.all_through place (map transform_of line.now) (clean (rows_held rows.now))) }
+{
+    let rows = rows.lend(alloc)?;
+    all_through(alloc, line, place, rows.as_slice())
 }
 
 /// What a sink gives: what its input gave. Rows that no later vertex takes are moved.
@@ -213,7 +263,7 @@ fn given_on(
 }
 
 /// The first of the own faults of the vertex of a place, which are in order.
-fn first_own(place: usize, faults: List<Fault>) -> Option<Located>
+pub(crate) fn first_own(place: usize, faults: List<Fault>) -> Option<Located>
     ensures { option_map arisen_at result ≡ option_map (arisen place) (slice_get faults 0) }
 {
     let first = faults.into_vec().into_iter().next()?;

@@ -12,6 +12,7 @@ mod readers;
 mod refusals;
 mod scope;
 mod site;
+mod through;
 mod unrolling;
 mod vertex;
 

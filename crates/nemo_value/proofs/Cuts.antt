@@ -30,6 +30,17 @@ module _ {A : Type 0} where
   parted_more [] (x ∷ xs) row h = let e = ap length h in absurd (omega arith)
   parted_more (w ∷ ws) xs row h = rw (take-append-le w xs row h.2) (rw (drop-append-le w xs row h.2) (ap (λ l. take w xs ∷ l) (parted_more ws (drop w xs) row h.3)))
 
+  -- rows behind others
+  pub widths_joined : (ws us : List ℕ) (xs ys : List A) → AreWidths ws xs → AreWidths us ys → AreWidths (ws ++ us) (xs ++ ys)
+  widths_joined [] us [] ys h g = g
+  widths_joined [] us (x ∷ xs) ys h g = let e = ap length h in absurd (omega arith)
+  widths_joined (w ∷ ws) us xs ys h g = (h.0, h.1, rw (length-append xs ys) (omega arith), rw (drop-append-le w xs ys h.2) (widths_joined ws us (drop w xs) ys h.3 g))
+
+  pub parted_joined : (ws us : List ℕ) (xs ys : List A) → AreWidths ws xs → parted (ws ++ us) (xs ++ ys) ≡ parted ws xs ++ parted us ys
+  parted_joined [] us [] ys h = refl
+  parted_joined [] us (x ∷ xs) ys h = let e = ap length h in absurd (omega arith)
+  parted_joined (w ∷ ws) us xs ys h = rw (take-append-le w xs ys h.2) (rw (drop-append-le w xs ys h.2) (ap (λ l. take w xs ∷ l) (parted_joined ws us (drop w xs) ys h.3)))
+
   -- the last width is within the list
   pub last_within : (ws : List ℕ) (w : ℕ) (xs : List A) → AreWidths (ws ++ w ∷ []) xs → w ≤ length xs
   last_within [] w xs h = h.2

@@ -105,6 +105,27 @@ impl Table {
         self.push(fields)
     }
 
+    /// Puts the rows of another table at the end. Where no memory is left, the rows stay as they were.
+    #[tactic(auto, using(crate::proofs::Cuts::widths_joined, crate::proofs::Cuts::parted_joined))]
+    pub fn append(&mut self, other: Table) -> Result<(), NoMemory>
+        ensures ok { OnOk result (self.new ≡ self.old ++ other) }
+        ensures err { OnErr result (self.new ≡ self.old) }
+    {
+        let Table {
+            mut fields,
+            mut widths,
+        } = other;
+        let count = self.widths.len();
+        self.widths.append(&mut widths)?;
+        match self.fields.append(&mut fields) {
+            Ok(()) => Ok(()),
+            Err(_) => {
+                self.widths.truncate(count);
+                Err(NoMemory)
+            }
+        }
+    }
+
     /// Keeps the first `count` rows.
     pub fn truncate(&mut self, count: usize)
         ensures { self.new ≡ take count self.old }
