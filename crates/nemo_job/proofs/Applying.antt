@@ -7,8 +7,9 @@ use Rattle.nemo_transform.specs.FaultOrder.{fault_cmp}
 use Rattle.nemo_transform.specs.Gives.{Row, Answer, answers, rows_in, own_faults}
 use Rattle.nemo_transform.specs.declared.transform.Transform.{Transform}
 use Rattle.nemo_transform.specs.declared.transform.Transform.TheVariants.{Source, Map, Filter, Emit, Words, Union, Reduce, Distinct, Join, SideJoin, Sink}
+use Rattle.nemo_transform.specs.FirstFault.{first_fault}
 use Rattle.nemo_transform.proofs.MapSteps.{rows_in-rows, no_fault-rows}
-use Rattle.nemo_job.specs.ByPlace.{ByPlace, first_fault}
+use Rattle.nemo_job.specs.ByPlace.{ByPlace}
 use Rattle.nemo_job.specs.Held.{answers_at, answers_on}
 
 -- rows alone have no fault

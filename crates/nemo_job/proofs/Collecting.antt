@@ -7,29 +7,31 @@ use Rattle.std.proofs.Math.Seq.{drop-cons}
 use Rattle.std.proofs.lemmas.Slice.Zip.{length-zip, get_or-zip}
 use Rattle.std.proofs.lemmas.List.{append-nil, get_or-map, length-map}
 use Rattle.std.proofs.lemmas.Option.{slice_get-map}
-use Rattle.nemo_job.specs.HeldRows.{rows_held}
 use Rattle.nemo_value.specs.Order.{record_cmp}
 use Rattle.nemo_value.specs.Sorting.{sorted}
 use Rattle.nemo_value.specs.declared.record.SinkRows.{SinkRows}
+use Rattle.nemo_value.specs.SinkOrder.{with_sorted}
 use Rattle.nemo_transform.specs.Brought.{Arisen, port, nothing}
 use Rattle.nemo_transform.specs.Gives.{Row}
 use Rattle.nemo_transform.specs.declared.transform.Transform.{Transform}
 use Rattle.nemo_transform.specs.declared.transform.Transform.TheVariants.{Source, Map, Filter, Emit, Words, Union, Reduce, Distinct, Join, SideJoin, Sink}
-use Rattle.nemo_job.specs.ByPlace.{ByPlace, Placed, first_fault, values}
+use Rattle.nemo_transform.specs.FirstFault.{first_fault, arisen_at, lesser_by}
 use Rattle.nemo_transform.specs.ArisenOrder.{place_cmp}
-use Rattle.nemo_job.specs.Held.{IsGiven, Known, arisen_at, faults_given, known, known_value, lesser, node_of, sink_at, sinks_given}
+use Rattle.nemo_transform.specs.Through.{Batch}
 use Rattle.nemo_transform.specs.Sinks.{does_sink}
-use Rattle.nemo_value.specs.SinkOrder.{with_sorted}
+use Rattle.nemo_transform.proofs.FirstFaults.{first_fault_both, lesser_none, lesser_joins, place_strict}
+use Rattle.nemo_job.specs.HeldRows.{rows_held}
+use Rattle.nemo_job.specs.ByPlace.{ByPlace, Placed, values}
+use Rattle.nemo_job.specs.Held.{IsGiven, faults_given, known, known_value, node_of, sink_at, sinks_given}
 use Rattle.nemo_job.specs.declared.held.Held.{Held}
 use Rattle.nemo_job.specs.declared.copies.Node.{Node}
 use Rattle.nemo_job.proofs.Feeding.{read_at, some_one}
 use Rattle.nemo_job.proofs.Values.{length_values}
-use Rattle.nemo_job.proofs.FirstFaults.{first_fault_both, lesser_none, lesser_joins, place_strict}
 
 -- what the vertices from an index on give, behind what those before it gave
 pub record SoFar (ps : List Placed) (vals : List ByPlace) (i : ℕ) (sinks : List SinkRows) (first : Option (Arisen ℕ)) : Type 0 where
   pub rest : sinks ++ map with_sorted (sinks_given (drop i ps) (drop i vals)) ≡ map with_sorted (sinks_given ps vals)
-  pub least : lesser place_cmp first (first_fault (faults_given (drop i ps) (drop i vals))) ≡ first_fault (faults_given ps vals)
+  pub least : lesser_by place_cmp first (first_fault (faults_given (drop i ps) (drop i vals))) ≡ first_fault (faults_given ps vals)
 
 from_here : {X : Type 0} (xs : List X) (i : ℕ) (d : X) → i < length xs → drop i xs ≡ get_or xs i d ∷ drop (i + 1) xs
 from_here xs i d low = rw add-one (drop-cons xs i d low)
@@ -82,12 +84,12 @@ module _ (ps : List Placed) (vals : List ByPlace) (i : ℕ) (p : Placed) (low : 
       let none = no_sink p.transform (port vals i).rows other in
       record {
         rest = ap (λ l. sinks ++ map with_sorted l) (sym (sinks_here ∙ ap (λ o. option_to_list o ++ sinks_given (drop (i + 1) ps) (drop (i + 1) vals)) none.0)) ∙ so.rest;
-        least = ap (λ l. lesser place_cmp first (first_fault l)) (sym (faults_here ∙ ap (λ b. cond b (port vals i).faults [] ++ faults_given (drop (i + 1) ps) (drop (i + 1) vals)) none.1)) ∙ so.least;
+        least = ap (λ l. lesser_by place_cmp first (first_fault l)) (sym (faults_here ∙ ap (λ b. cond b (port vals i).faults [] ++ faults_given (drop (i + 1) ps) (drop (i + 1) vals)) none.1)) ∙ so.least;
       }
 
   -- a sink
   so_far_sink : (sinks more : List SinkRows) (first least : Option (Arisen ℕ)) (name : List ℕ) (sink : SinkRows) → p.transform ≡ Sink name → sink ≡ record { name = name; rows = sorted record_cmp (port vals i).rows }
-      → more ≡ sinks ++ sink ∷ [] → least ≡ lesser place_cmp first (first_fault (port vals i).faults) → SoFar ps vals i sinks first → SoFar ps vals (i + 1) more least
+      → more ≡ sinks ++ sink ∷ [] → least ≡ lesser_by place_cmp first (first_fault (port vals i).faults) → SoFar ps vals i sinks first → SoFar ps vals (i + 1) more least
   so_far_sink sinks more first least name sink does got put lower so =
       let others = sinks_given (drop (i + 1) ps) (drop (i + 1) vals) in
       let faults = faults_given (drop (i + 1) ps) (drop (i + 1) vals) in
@@ -97,15 +99,15 @@ module _ (ps : List Placed) (vals : List ByPlace) (i : ℕ) (p : Placed) (low : 
       faults_here ∙ ap (λ t. cond (does_sink t) (port vals i).faults [] ++ faults) does in
       record {
         rest = ap (λ l. l ++ map with_sorted others) put ∙ append_assoc sinks (sink ∷ []) (map with_sorted others) ∙ ap (λ l. sinks ++ l) (sym here) ∙ so.rest;
-        least = ap (λ l. lesser place_cmp l (first_fault faults)) lower
+        least = ap (λ l. lesser_by place_cmp l (first_fault faults)) lower
             ∙ sym (lesser_joins place_cmp place_strict first (first_fault (port vals i).faults) (first_fault faults))
-            ∙ ap (lesser place_cmp first) (sym (ap first_fault brought ∙ first_fault_both (port vals i).faults faults))
+            ∙ ap (lesser_by place_cmp first) (sym (ap first_fault brought ∙ first_fault_both (port vals i).faults faults))
             ∙ so.least;
       }
 
   -- what a vertex gave, added
   pub so_far_added : (sinks more : List SinkRows) (first own least : Option (Arisen ℕ)) (rows : List Row) → (does_sink p.transform ≡ true → record { rows = rows; first = own } ≡ known_value (port vals i))
-      → more ≡ sinks ++ map with_sorted (option_to_list (sink_at p.transform rows)) → least ≡ lesser place_cmp first (cond (does_sink p.transform) own None)
+      → more ≡ sinks ++ map with_sorted (option_to_list (sink_at p.transform rows)) → least ≡ lesser_by place_cmp first (cond (does_sink p.transform) own None)
       → SoFar ps vals i sinks first → SoFar ps vals (i + 1) more least
   so_far_added sinks more first own least rows gave put lower so = go (a_sink p.transform)
     where
@@ -113,12 +115,12 @@ module _ (ps : List Placed) (vals : List ByPlace) (i : ℕ) (p : Placed) (low : 
       go (inl s) =
           let known : record { rows = rows; first = own } ≡ known_value (port vals i) = gave (ap does_sink s.1) in
           so_far_sink sinks more first least s.0 (record { name = s.0; rows = sorted record_cmp (port vals i).rows }) s.1 refl
-          (put ∙ ap (λ t. sinks ++ map with_sorted (option_to_list (sink_at t rows))) s.1 ∙ ap (λ (k : Known). sinks ++ record { name = s.0; rows = sorted record_cmp k.rows } ∷ []) known)
-          (lower ∙ ap (λ t. lesser place_cmp first (cond (does_sink t) own None)) s.1 ∙ ap (λ (k : Known). lesser place_cmp first k.first) known) so
+          (put ∙ ap (λ t. sinks ++ map with_sorted (option_to_list (sink_at t rows))) s.1 ∙ ap (λ (k : Batch). sinks ++ record { name = s.0; rows = sorted record_cmp k.rows } ∷ []) known)
+          (lower ∙ ap (λ t. lesser_by place_cmp first (cond (does_sink t) own None)) s.1 ∙ ap (λ (k : Batch). lesser_by place_cmp first k.first) known) so
       go (inr s) =
           let none = no_sink p.transform rows s in
           subst (λ m. SoFar ps vals (i + 1) m least) (sym (put ∙ ap (λ o. sinks ++ map with_sorted (option_to_list o)) none.0 ∙ append-nil sinks))
-          (subst (λ l. SoFar ps vals (i + 1) sinks l) (sym (lower ∙ ap (λ b. lesser place_cmp first (cond b own None)) none.1 ∙ lesser_none place_cmp place_strict first))
+          (subst (λ l. SoFar ps vals (i + 1) sinks l) (sym (lower ∙ ap (λ b. lesser_by place_cmp first (cond b own None)) none.1 ∙ lesser_none place_cmp place_strict first))
           (so_far_other sinks first s so))
 
 -- after the last vertex
@@ -126,7 +128,7 @@ pub so_far_all : (ps : List Placed) (vals : List ByPlace) (i : ℕ) (sinks : Lis
 so_far_all ps vals i sinks first end so =
     let none : drop i ps ≡ [] = drop_of_length-le ps end in (
       sym (append-nil sinks) ∙ ap (λ l. sinks ++ map with_sorted (sinks_given l (drop i vals))) (sym none) ∙ so.rest,
-      sym (lesser_none place_cmp place_strict first) ∙ ap (λ l. lesser place_cmp first (first_fault (faults_given l (drop i vals)))) (sym none) ∙ so.least,
+      sym (lesser_none place_cmp place_strict first) ∙ ap (λ l. lesser_by place_cmp first (first_fault (faults_given l (drop i vals)))) (sym none) ∙ so.least,
     )
 
 -- what a sink was given
@@ -164,7 +166,7 @@ module _ (nodes : List Node) (held : List Held) (i : ℕ) (node : Node) (given :
 
   -- one vertex more
   pub collected_added : (sinks more : List SinkRows) (first least : Option (Arisen ℕ)) → more ≡ sinks ++ map with_sorted (option_to_list (sink_at node.transform.now (rows_held given.rows)))
-      → least ≡ lesser place_cmp first (cond (does_sink node.transform.now) (option_map arisen_at given.first) None)
+      → least ≡ lesser_by place_cmp first (cond (does_sink node.transform.now) (option_map arisen_at given.first) None)
       → SoFar (map node_of nodes) (values (map node_of nodes)) i sinks first → SoFar (map node_of nodes) (values (map node_of nodes)) (i + 1) more least
   collected_added sinks more first least put lower before =
       so_far_added (map node_of nodes) (values (map node_of nodes)) i (node_of node) low valued placed_is sinks more first (option_map arisen_at given.first) least (rows_held given.rows)

@@ -13,11 +13,12 @@ use Rattle.nemo_transform.specs.Gives.{Answer, answers, own_faults}
 use Rattle.nemo_transform.specs.Ports.{kinds_of}
 use Rattle.nemo_transform.specs.declared.fault.Fault.{Fault}
 use Rattle.nemo_transform.specs.declared.transform.Transform.{Transform}
-use Rattle.nemo_job.specs.ByPlace.{ByPlace, Placed, first_fault, value_after, values, values_from}
+use Rattle.nemo_transform.specs.FirstFault.{first_fault}
 use Rattle.nemo_transform.specs.ArisenOrder.{place_cmp}
+use Rattle.nemo_transform.specs.Sinks.{does_sink}
+use Rattle.nemo_job.specs.ByPlace.{ByPlace, Placed, value_after, values, values_from}
 use Rattle.nemo_job.specs.Ends.{by_path}
 use Rattle.nemo_job.specs.Held.{faults_given}
-use Rattle.nemo_transform.specs.Sinks.{does_sink}
 use Rattle.nemo_job.specs.Mean.{mean}
 use Rattle.nemo_job.specs.Paths.{paths}
 use Rattle.nemo_job.specs.Refusals.{IsJob}

@@ -7,15 +7,17 @@ use Rattle.std.proofs.lemmas.Grind.{flat_map-append}
 use Rattle.std.proofs.lemmas.List.{get_or-map, take_more, append-nil}
 use Rattle.std.proofs.lemmas.List.Folds.{flat_map-map}
 use Rattle.std.proofs.lemmas.Option.{slice_get-map, slice_get_read}
-use Rattle.nemo_job.specs.HeldRows.{rows_held}
 use Rattle.nemo_transform.specs.Brought.{port, all_rows, all_faults, nothing}
 use Rattle.nemo_transform.specs.Gives.{Row, is_filled}
-use Rattle.nemo_job.specs.ByPlace.{ByPlace, first_fault}
+use Rattle.nemo_transform.specs.FirstFault.{first_fault, arisen_at, lesser_by}
 use Rattle.nemo_transform.specs.ArisenOrder.{place_cmp}
-use Rattle.nemo_job.specs.Held.{Feeds, Known, known, known_value, arisen_at, lesser}
+use Rattle.nemo_transform.specs.Through.{Batch}
+use Rattle.nemo_transform.specs.declared.fault.Located.{Located}
+use Rattle.nemo_transform.proofs.FirstFaults.{first_fault_both, some_first}
+use Rattle.nemo_job.specs.HeldRows.{rows_held}
+use Rattle.nemo_job.specs.ByPlace.{ByPlace}
+use Rattle.nemo_job.specs.Held.{Feeds, known, known_value}
 use Rattle.nemo_job.specs.declared.held.Held.{Held}
-use Rattle.nemo_job.specs.declared.held.Located.{Located}
-use Rattle.nemo_job.proofs.FirstFaults.{first_fault_both, some_first}
 
 pub some_one : {X : Type 0} (a b : X) → Some a ≡ Some b → a ≡ b
 some_one a b e = cc
@@ -51,11 +53,11 @@ brought_more g vals inputs i low =
 
 -- the first fault that the inputs bring, with one input more
 pub passed_more : (vals : List ByPlace) (held : List Held) (inputs : List ℕ) (i : ℕ) (h : Held) (first more copy : Option Located) → Feeds vals (map known held) inputs → All (λ j. j < length held) inputs → i < length inputs → h ≡ get_or held (get_or inputs i 0) h → copy ≡ h.first
-    → option_map arisen_at more ≡ lesser place_cmp (option_map arisen_at first) (option_map arisen_at copy)
+    → option_map arisen_at more ≡ lesser_by place_cmp (option_map arisen_at first) (option_map arisen_at copy)
     → option_map arisen_at first ≡ first_fault (all_faults (map (port vals) (take i inputs))) → option_map arisen_at more ≡ first_fault (all_faults (map (port vals) (take (i + 1) inputs)))
 passed_more vals held inputs i h first more copy feeds within low is same least so =
     let here : option_map arisen_at copy ≡ first_fault (port vals (get_or inputs i 0)).faults = ap (option_map arisen_at) same ∙ ap (λ k. k.first) (fed vals held inputs i h feeds within low is) in
-    least ∙ (λ z. lesser place_cmp (so z) (here z))
+    least ∙ (λ z. lesser_by place_cmp (so z) (here z))
     ∙ sym (first_fault_both (all_faults (map (port vals) (take i inputs))) (port vals (get_or inputs i 0)).faults)
     ∙ sym (ap first_fault (brought_more (λ f. f.faults) vals inputs i low))
 
@@ -78,5 +80,5 @@ pub faults_of_port : (vals : List ByPlace) (held : List Held) (inputs : List ℕ
 faults_of_port vals held inputs i h feeds within low is =
     some_kept h.first ∙ ap (λ k. is_some k.first) (fed vals held inputs i h feeds within low is) ∙ some_first (port vals (get_or inputs i 0)).faults
 
-pub fed_through : (vals : List ByPlace) (held : List Known) (xs ys : List ℕ) → xs ≡ ys → Feeds vals held ys → Feeds vals held xs
+pub fed_through : (vals : List ByPlace) (held : List Batch) (xs ys : List ℕ) → xs ≡ ys → Feeds vals held ys → Feeds vals held xs
 fed_through vals held xs ys e feeds = subst (Feeds vals held) (sym e) feeds

@@ -4,8 +4,9 @@ use Rattle.std.specs.Prelude.{slice_get, option_map, is_some, All}
 use Rattle.std.proofs.lemmas.List.{get_or_append_left, get_or-append_right, map-append}
 use Rattle.std.proofs.lemmas.Option.{slice_get-get_or, slice_get-map, slice_get_within, slice_get_cases, slice_get_read, get_or_from_slice_get}
 use Rattle.nemo_transform.specs.Brought.{port}
+use Rattle.nemo_transform.specs.Through.{Batch}
 use Rattle.nemo_job.specs.ByPlace.{ByPlace, Placed}
-use Rattle.nemo_job.specs.Held.{Feeds, IsGiven, IsHeld, IsLast, IsLower, IsReleased, Known, known, known_value, node_of}
+use Rattle.nemo_job.specs.Held.{Feeds, IsGiven, IsHeld, IsLast, IsLower, IsReleased, known, known_value, node_of}
 use Rattle.nemo_job.specs.declared.held.Held.{Held}
 use Rattle.nemo_job.specs.declared.copies.Node.{Node}
 use Rattle.nemo_job.proofs.Feeding.{some_one}
@@ -22,11 +23,11 @@ held_none vals last = record {
 pub inputs_below : (ps : List Placed) (place n : ℕ) (p : Placed) → IsLower ps → slice_get ps place ≡ Some p → n ≡ place → All (λ j. j < n) p.inputs
 inputs_below ps place n p lower e is = λ k d low. subst (λ m. get_or p.inputs k d < m) (sym is) (lower place p k (get_or p.inputs k d) e (slice_get-get_or p.inputs k d low))
 
-none_known : Known
+none_known : Batch
 none_known = record { rows = []; first = None }
 
 -- what a vertex that reaches a sink takes is held
-pub held_feeds : (vals : List ByPlace) (ps : List Placed) (last : List (Option ℕ)) (place u : ℕ) (held : List Known) (p : Placed) → IsLower ps → IsLast ps last → IsHeld vals last place held → slice_get ps place ≡ Some p → slice_get last place ≡ Some (Some u) → Feeds vals held p.inputs
+pub held_feeds : (vals : List ByPlace) (ps : List Placed) (last : List (Option ℕ)) (place u : ℕ) (held : List Batch) (p : Placed) → IsLower ps → IsLast ps last → IsHeld vals last place held → slice_get ps place ≡ Some p → slice_get last place ≡ Some (Some u) → Feeds vals held p.inputs
 held_feeds vals ps last place u held p lower lasts so there reach =
     same_on (slice_get held) (λ j. Some (known_value (port vals j))) p.inputs
     (λ k j e.
@@ -50,7 +51,7 @@ front_all xs ys d k low =
     ∙ ap Some (get_or_append_left xs ys d k low) ∙ sym (slice_get-get_or xs k d low)
 
 -- Vertices more: each but the last one is taken by the next one alone, so that what it gives needn't be held.
-pub held_line : (vals : List ByPlace) (last : List (Option ℕ)) (place : ℕ) (held new mids : List Known) (given : Known) → IsHeld vals last place held → IsReleased last place held new
+pub held_line : (vals : List ByPlace) (last : List (Option ℕ)) (place : ℕ) (held new mids : List Batch) (given : Batch) → IsHeld vals last place held → IsReleased last place held new
     → ((k : ℕ) → place ≤ k → k < place + length mids → slice_get last k ≡ Some (Some (suc k)))
     → ((u : ℕ) → slice_get last (place + length mids) ≡ Some (Some u) → given ≡ known_value (port vals (place + length mids)))
     → IsHeld vals last (place + length mids + 1) ((new ++ mids) ++ given ∷ [])
@@ -81,7 +82,7 @@ held_line vals last place held new mids given so let_go next gives =
     }
 
 -- after the last vertex what the sinks gave is held
-pub held_given : (vals : List ByPlace) (ps : List Placed) (last : List (Option ℕ)) (place : ℕ) (held : List Known) → IsLast ps last → IsHeld vals last place held → place ≡ length ps → IsGiven ps vals held
+pub held_given : (vals : List ByPlace) (ps : List Placed) (last : List (Option ℕ)) (place : ℕ) (held : List Batch) → IsLast ps last → IsHeld vals last place held → place ≡ length ps → IsGiven ps vals held
 held_given vals ps last place held lasts so end = record {
   size = so.size ∙ end;
   sinks = λ k p e sinks.
@@ -101,7 +102,7 @@ not_reached last place None u read so reach = let both : Some None ≡ Some (Som
 not_reached last place (Some w) u read so reach = cc
 
 -- the same, as code holds it
-pub held_pushed : (vals : List ByPlace) (last : List (Option ℕ)) (place : ℕ) (held : List Known) (new all : List Held) (given : Held) → IsHeld vals last place held → IsReleased last place held (map known new) → all ≡ new ++ given ∷ []
+pub held_pushed : (vals : List ByPlace) (last : List (Option ℕ)) (place : ℕ) (held : List Batch) (new all : List Held) (given : Held) → IsHeld vals last place held → IsReleased last place held (map known new) → all ≡ new ++ given ∷ []
     → ((u : ℕ) → slice_get last place ≡ Some (Some u) → known given ≡ known_value (port vals place)) → IsHeld vals last (place + 1) (map known all)
 held_pushed vals last place held new all given so let_go put gives =
     let z : place + 0 ≡ place = omega arith in

@@ -2,29 +2,30 @@
 use Rattle.std.proofs.Common.{◌≡◌, ◌∙◌, refl, sym, ap, subst, ℕ, ◌<◌, List, [], ◌∷◌, map, length, Option, Some, None, true, inl, inr}
 use Rattle.std.proofs.lemmas.List.{length-map}
 use Rattle.std.specs.Prelude.{slice_get, option_map}
-use Rattle.nemo_value.proofs.AscendingLists.{in_ascending}
-use Rattle.nemo_value.proofs.Members.{In}
 use Rattle.nemo_value.specs.Ascending.{ascending}
 use Rattle.nemo_value.specs.Sorting.{sorted}
 use Rattle.nemo_value.specs.Texts.{all_new}
 use Rattle.nemo_value.specs.declared.record.SinkRows.{SinkRows}
+use Rattle.nemo_value.specs.SinkOrder.{by_name, with_sorted}
+use Rattle.nemo_value.proofs.AscendingLists.{in_ascending}
+use Rattle.nemo_value.proofs.Members.{In}
 use Rattle.nemo_transform.specs.Brought.{Arisen}
-use Rattle.nemo_job.specs.ByPlace.{first_fault, values}
+use Rattle.nemo_transform.specs.FirstFault.{first_fault, arisen_at}
 use Rattle.nemo_transform.specs.ArisenOrder.{place_cmp}
+use Rattle.nemo_transform.specs.declared.fault.Located.{Located}
+use Rattle.nemo_transform.proofs.FirstFaults.{place_strict}
+use Rattle.nemo_job.specs.ByPlace.{values}
 use Rattle.nemo_job.specs.Ends.{IsEndOf, by_path, fault_end}
-use Rattle.nemo_job.specs.Held.{arisen_at, faults_given, node_of, sinks_given}
+use Rattle.nemo_job.specs.Held.{faults_given, node_of, sinks_given}
 use Rattle.nemo_job.specs.Nodes.{copy_of}
 use Rattle.nemo_job.specs.Refusals.{IsJob}
 use Rattle.nemo_job.specs.Sinks.{job_faults, job_rows}
-use Rattle.nemo_value.specs.SinkOrder.{by_name, with_sorted}
 use Rattle.nemo_job.specs.Unrolled.{placed_copies, placed_copy, unrolled}
 use Rattle.nemo_job.specs.declared.copies.Node.{Node}
 use Rattle.nemo_job.specs.declared.evaluate.JobEnd.{JobEnd}
-use Rattle.nemo_job.specs.declared.held.Located.{Located}
 use Rattle.nemo_job.specs.declared.vertex.JobVertex.{JobVertex}
 use Rattle.nemo_job.proofs.CopyFaults.{Below, first_copied, low_faults, none_copied}
 use Rattle.nemo_job.proofs.CopySinks.{rows_copied, sinks_apart}
-use Rattle.nemo_job.proofs.FirstFaults.{place_strict}
 use Rattle.nemo_job.proofs.PathsApart.{place_of_copy}
 use Rattle.nemo_job.proofs.UnrolledMean.{mean_unrolled}
 

@@ -13,7 +13,6 @@ pub mod FedCopies
 pub mod Feeding
 pub mod FineBodies
 pub mod FineSites
-pub mod FirstFaults
 pub mod FirstNames
 pub mod FirstPlaces
 pub mod Giving
@@ -30,7 +29,6 @@ pub mod Lining
 pub mod LoopCopies
 pub mod NamedSinks
 pub mod Natural
-pub mod PartsThrough
 pub mod PathsApart
 pub mod Plain
 pub mod PutFirst

@@ -1,38 +1,29 @@
--- One part of the rows of a line more.
-use Rattle.std.proofs.Common.{◌≡◌, ◌∙◌, refl, sym, ap, ℕ, List, ◌++◌, map, true, Option, Some, None}
-use Rattle.std.specs.Prelude.{All, option_map, slice_get}
-use Rattle.std.proofs.lemmas.Option.{slice_get-map, slice_get_within, get_or_from_slice_get}
-use Rattle.nemo_transform.specs.Gives.{Row}
+-- Rows that are held go through a line.
+use Rattle.std.proofs.Common.{◌≡◌, ◌∙◌, ◌<◌, sym, ap, subst, ℕ, List, map, length, get_or, Option, Bor}
+use Rattle.std.specs.Prelude.{All}
+use Rattle.std.proofs.lemmas.List.{get_or-map, length-map}
+use Rattle.std.proofs.lemmas.List.Elements.{All-map}
 use Rattle.nemo_transform.specs.ArisenOrder.{place_cmp}
 use Rattle.nemo_transform.specs.Brought.{Arisen}
-use Rattle.nemo_job.specs.Held.{Known, lesser}
-use Rattle.nemo_job.specs.Passed.{transform_of}
-use Rattle.nemo_job.specs.Through.{all_through, both, clean, goes_by_row}
+use Rattle.nemo_transform.specs.FirstFault.{lesser_by}
+use Rattle.nemo_transform.specs.Gives.{Row}
+use Rattle.nemo_transform.specs.Through.{Batch, all_through, clean}
+use Rattle.nemo_transform.specs.declared.transform.Transform.{Transform}
+use Rattle.nemo_transform.proofs.PartsThrough.{GoByRow, all_with}
+use Rattle.nemo_job.specs.Held.{transform_of}
 use Rattle.nemo_job.specs.declared.copies.Node.{Node}
-use Rattle.nemo_job.proofs.PartsThrough.{GoByRow, all_both, all_with}
 
--- vertices that go row by row
-pub by_row_nodes : (line : List Node) → All (λ n. goes_by_row n.transform.now ≡ true) line → GoByRow (map transform_of line)
-by_row_nodes line h k t e = go (slice_get line k) refl (sym (slice_get-map transform_of line k) ∙ e)
-  where
-    go : (o : Option Node) → slice_get line k ≡ o → option_map transform_of o ≡ Some t → goes_by_row t ≡ true
-    go None is f = cc
-    go (Some n) is f =
-        let same : transform_of n ≡ t = cc in
-        ap goes_by_row (sym same) ∙ ap (λ m. goes_by_row (transform_of m)) (sym (get_or_from_slice_get line k n n is)) ∙ h k n (slice_get_within line k n is)
-
--- a part more
-pub part_more : (place : ℕ) (line : List Node) (rows part more : List Row) (all now : Known) → GoByRow (map transform_of line)
-    → more ≡ rows ++ part → all ≡ all_through place (map transform_of line) (clean rows) → now ≡ both all (all_through place (map transform_of line) (clean part))
-    → now ≡ all_through place (map transform_of line) (clean more)
-part_more place line rows part more all now h is a n =
-    n ∙ ap (λ k. both k (all_through place (map transform_of line) (clean part))) a ∙ sym (all_both place (map transform_of line) (clean rows) (clean part) h) ∙ ap (λ l. all_through place (map transform_of line) (clean l)) (sym is)
+-- what is so of vertices is so of their transforms, which are lent
+pub so_lent : (P : Transform → Type 0) (line : List Node) (lent : List (Bor Transform)) → map (λ t. t.now) lent ≡ map transform_of line → All (λ n. P n.transform.now) line → All (λ t. P t.now) lent
+so_lent P line lent same h = λ k d low.
+    let all : All P (map (λ (t : Bor Transform). t.now) lent) = subst (All P) (sym same) (All-map P transform_of line h) in
+    subst P (get_or-map (λ (t : Bor Transform). t.now) lent k d d.now low) (all k d.now (subst (λ n. k < n) (sym (length-map lent (λ t. t.now))) low))
 
 -- rows that are held, with the fault that came with them
-pub line_known : (place : ℕ) (line : List Node) (rows : List Row) (made k : Known) (first fault : Option (Arisen ℕ)) → GoByRow (map transform_of line) → k ≡ record { rows = rows; first = fault }
-    → made ≡ all_through place (map transform_of line) (clean rows) → first ≡ lesser place_cmp fault made.first → record { rows = made.rows; first = first } ≡ all_through place (map transform_of line) k
-line_known place line rows made k first fault h is m f =
-    let least : first ≡ lesser place_cmp fault (all_through place (map transform_of line) (clean rows)).first = f ∙ ap (λ x. lesser place_cmp fault x.first) m in
-    let both : record { rows = made.rows; first = first } ≡ record { rows = (all_through place (map transform_of line) (clean rows)).rows; first = lesser place_cmp fault (all_through place (map transform_of line) (clean rows)).first } =
+pub line_known : (place : ℕ) (ts : List Transform) (rows : List Row) (made k : Batch) (first fault : Option (Arisen ℕ)) → GoByRow ts → k ≡ record { rows = rows; first = fault }
+    → made ≡ all_through place ts (clean rows) → first ≡ lesser_by place_cmp fault made.first → record { rows = made.rows; first = first } ≡ all_through place ts k
+line_known place ts rows made k first fault h is m f =
+    let least : first ≡ lesser_by place_cmp fault (all_through place ts (clean rows)).first = f ∙ ap (λ x. lesser_by place_cmp fault x.first) m in
+    let both : record { rows = made.rows; first = first } ≡ record { rows = (all_through place ts (clean rows)).rows; first = lesser_by place_cmp fault (all_through place ts (clean rows)).first } =
     λ i. record { rows = (m i).rows; first = least i } in
-    both ∙ sym (all_with place (map transform_of line) rows fault h) ∙ sym (ap (all_through place (map transform_of line)) is)
+    both ∙ sym (all_with place ts rows fault h) ∙ sym (ap (all_through place ts) is)

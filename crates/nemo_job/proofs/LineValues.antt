@@ -8,19 +8,20 @@ use Rattle.nemo_transform.specs.Ports.{kinds_of}
 use Rattle.nemo_transform.specs.Sinks.{does_sink}
 use Rattle.nemo_transform.specs.declared.transform.Transform.{Transform}
 use Rattle.nemo_transform.specs.declared.transform.Transform.TheVariants.{Source, Map, Filter, Emit, Words, Union, Reduce, Distinct, Join, SideJoin, Sink}
-use Rattle.nemo_job.specs.ByPlace.{ByPlace, Placed, first_fault, values}
-use Rattle.nemo_job.specs.Held.{IsLower, known_value, lesser, node_of}
-use Rattle.nemo_job.specs.Passed.{transform_of}
-use Rattle.nemo_job.specs.Through.{all_through, goes_by_row, through}
+use Rattle.nemo_transform.specs.FirstFault.{first_fault, lesser_by}
+use Rattle.nemo_transform.specs.Through.{all_through, through}
+use Rattle.nemo_transform.specs.RowByRow.{goes_by_row}
+use Rattle.nemo_transform.proofs.FirstFaults.{first_fault_both}
+use Rattle.nemo_transform.proofs.PartsThrough.{GoByRow}
+use Rattle.nemo_job.specs.ByPlace.{ByPlace, Placed, values}
+use Rattle.nemo_job.specs.Held.{IsLower, known_value, node_of, transform_of}
 use Rattle.nemo_job.specs.declared.copies.Node.{Node}
-use Rattle.nemo_job.proofs.FirstFaults.{first_fault_both}
-use Rattle.nemo_job.proofs.PartsThrough.{GoByRow}
 use Rattle.nemo_job.proofs.Values.{value_is}
 
-shape : (place : ℕ) (f : ByPlace) (given : List Answer) → known_value (record { rows = rows_in given; faults = (f.faults ++ []) ++ map (arisen place) (own_faults given) }) ≡ record { rows = rows_in given; first = lesser place_cmp (first_fault f.faults) (first_fault (map (arisen place) (own_faults given))) }
+shape : (place : ℕ) (f : ByPlace) (given : List Answer) → known_value (record { rows = rows_in given; faults = (f.faults ++ []) ++ map (arisen place) (own_faults given) }) ≡ record { rows = rows_in given; first = lesser_by place_cmp (first_fault f.faults) (first_fault (map (arisen place) (own_faults given))) }
 shape place f given =
     let own = map (arisen place) (own_faults given) in
-    let first : first_fault ((f.faults ++ []) ++ own) ≡ lesser place_cmp (first_fault f.faults) (first_fault own) = ap (λ l. first_fault (l ++ own)) (append-nil f.faults) ∙ first_fault_both f.faults own in
+    let first : first_fault ((f.faults ++ []) ++ own) ≡ lesser_by place_cmp (first_fault f.faults) (first_fault own) = ap (λ l. first_fault (l ++ own)) (append-nil f.faults) ∙ first_fault_both f.faults own in
     λ i. record { rows = rows_in given; first = first i }
 
 -- a vertex that goes row by row

@@ -6,11 +6,11 @@ use Rattle.std.proofs.lemmas.List.{get_or-drop, get_or-take, length-drop, length
 use Rattle.std.proofs.lemmas.Option.{get_or_from_slice_get, slice_get-get_or, slice_get-map, slice_get_within}
 use Rattle.nemo_transform.specs.Brought.{port}
 use Rattle.nemo_transform.specs.Soundness.{is_sound}
+use Rattle.nemo_transform.specs.Through.{Batch, all_through, clean}
+use Rattle.nemo_transform.specs.RowByRow.{goes_by_row}
 use Rattle.nemo_job.specs.ByPlace.{Placed, values}
-use Rattle.nemo_job.specs.Held.{IsHeld, IsLast, IsPlaced, IsReleased, Known, known, known_value, node_of}
+use Rattle.nemo_job.specs.Held.{IsHeld, IsLast, IsPlaced, IsReleased, known, known_value, node_of, transform_of}
 use Rattle.nemo_job.specs.Lines.{IsJoined, IsLineOf, Joins}
-use Rattle.nemo_job.specs.Passed.{transform_of}
-use Rattle.nemo_job.specs.Through.{all_through, clean, goes_by_row}
 use Rattle.nemo_job.specs.declared.copies.Node.{Node}
 use Rattle.nemo_job.specs.declared.held.Held.{Held}
 use Rattle.nemo_job.proofs.Feeding.{some_one}
@@ -31,7 +31,7 @@ only_one (x ∷ []) j (suc i) h e = cc
 only_one (x ∷ y ∷ inputs) j i h e = absurd (omega arith)
 
 -- one more that nothing is held of
-pub pushed_one : (held more : List Held) (h : Held) (base : List Known) (n : ℕ) → map known held ≡ base ++ replicate n (clean []) → more ≡ held ++ h ∷ [] → known h ≡ clean [] → map known more ≡ base ++ replicate (n + 1) (clean [])
+pub pushed_one : (held more : List Held) (h : Held) (base : List Batch) (n : ℕ) → map known held ≡ base ++ replicate n (clean []) → more ≡ held ++ h ∷ [] → known h ≡ clean [] → map known more ≡ base ++ replicate (n + 1) (clean [])
 pushed_one held more h base n so put none =
     ap (map known) put ∙ map-append known held (h ∷ []) ∙ (λ i. so i ++ none i ∷ []) ∙ append_assoc base (replicate n (clean [])) (clean [] ∷ [])
     ∙ ap (λ l. base ++ l) (replicate-append-replicate n 1 (clean []))
@@ -112,8 +112,8 @@ module _ (nodes : List Node) (last : List (Option ℕ)) (place end : ℕ) (place
     is_line : IsLine (map node_of nodes) placed.lower input place line
     is_line = record { there = placed_in; by_row = by_row_at; first = λ m e. ap (λ x. x.inputs) (some_one m n (sym e ∙ here)) ∙ takes; others = takes_before }
 
-    pub line_held : (held new all : List Known) (given : Known) → IsHeld (values (map node_of nodes)) last place held → IsReleased last place held new
-        → ((k : Known) → slice_get held input ≡ Some k → given ≡ all_through place (map transform_of line) k)
+    pub line_held : (held new all : List Batch) (given : Batch) → IsHeld (values (map node_of nodes)) last place held → IsReleased last place held new
+        → ((k : Batch) → slice_get held input ≡ Some k → given ≡ all_through place (map transform_of line) k)
         → all ≡ (new ++ replicate (length line - 1) (clean [])) ++ given ∷ [] → IsHeld (values (map node_of nodes)) last end all
     line_held held new all given is_held let_go gives put =
         let vals = values (map node_of nodes) in

@@ -8,7 +8,8 @@ use Rattle.std.proofs.lemmas.List.Elements.{All-get_or}
 use Rattle.std.proofs.lemmas.List.{get_or-map, map-set, length-map}
 use Rattle.std.proofs.Math.ListN.{length-set}
 use Rattle.std.proofs.Math.Seq.{map-set_same}
-use Rattle.nemo_job.specs.Held.{IsReleased, Known, known}
+use Rattle.nemo_transform.specs.Through.{Batch}
+use Rattle.nemo_job.specs.Held.{IsReleased, known}
 use Rattle.nemo_job.specs.declared.held.Held.{Held}
 
 slice_get_other : {X : Type 0} (xs : List X) (j k : ℕ) (y : X) → k ≢ j → slice_get (set xs j y) k ≡ slice_get xs k
@@ -18,10 +19,10 @@ slice_get_other (x ∷ xs) zero (suc k) y apart = refl
 slice_get_other (x ∷ xs) (suc j) zero y apart = refl
 slice_get_other (x ∷ xs) (suc j) (suc k) y apart = slice_get_other xs j k y (λ e. apart (ap suc e))
 
-pub released_none : (last : List (Option ℕ)) (place : ℕ) (old : List Known) → IsReleased last place old old
+pub released_none : (last : List (Option ℕ)) (place : ℕ) (old : List Batch) → IsReleased last place old old
 released_none last place old = record { size = refl; first = refl; rows = λ k h. refl }
 
-pub released_then : (last : List (Option ℕ)) (place : ℕ) (a b c : List Known) → IsReleased last place a b → IsReleased last place b c → IsReleased last place a c
+pub released_then : (last : List (Option ℕ)) (place : ℕ) (a b c : List Batch) → IsReleased last place a b → IsReleased last place b c → IsReleased last place a c
 released_then last place a b c p q = record {
   size = q.size ∙ p.size;
   first = q.first ∙ p.first;

@@ -1,9 +1,7 @@
 -- What the copies of a job's vertices give, named by their places.
-use Rattle.std.specs.Prelude.{ℕ, List, [], length, map, slice_get, Option}
+use Rattle.std.specs.Prelude.{ℕ, List, [], length, map}
 use Rattle.nemo_value.specs.Along.{along}
-use Rattle.nemo_value.specs.Ascending.{ascending}
-use Rattle.nemo_transform.specs.ArisenOrder.{place_cmp}
-use Rattle.nemo_transform.specs.Brought.{Arisen, Brought, port, at}
+use Rattle.nemo_transform.specs.Brought.{Brought, port, at}
 use Rattle.nemo_transform.specs.declared.transform.Transform.{Transform}
 
 -- what a port brings, in which a vertex is named by its place
@@ -25,7 +23,3 @@ values_from = along value_after
 -- what each vertex gives
 abbrev pub values : List Placed → List ByPlace
 values ps = values_from [] ps
-
--- the first of some faults
-abbrev pub first_fault : List (Arisen ℕ) → Option (Arisen ℕ)
-first_fault faults = slice_get (ascending place_cmp faults) 0

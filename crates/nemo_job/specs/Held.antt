@@ -1,44 +1,33 @@
 -- What an evaluation holds of what its vertices gave.
 use Rattle.std.specs.Prelude.{◌≡◌, ◌≤◌, ◌<◌, ◌⊎◌, ℕ, List, [], ◌∷◌, ◌++◌, length, map, slice_get, Option, Some, None, option_map, option_to_list, true, if◌then◌else◌}
-use Rattle.nemo_job.specs.HeldRows.{rows_held}
-use Rattle.std.specs.Ordering.{is_lt}
-use Rattle.std.specs.declared.cmp.Ordering.{Ordering}
+use Rattle.nemo_value.specs.declared.record.SinkRows.{SinkRows}
 use Rattle.nemo_transform.specs.Brought.{Arisen, port, at, first_rows, second_rows}
 use Rattle.nemo_transform.specs.Gives.{Row, Answer, answers}
 use Rattle.nemo_transform.specs.Ports.{kinds_of}
 use Rattle.nemo_transform.specs.Soundness.{is_sound}
 use Rattle.nemo_transform.specs.declared.transform.Transform.{Transform}
 use Rattle.nemo_transform.specs.declared.transform.Transform.TheVariants.{Sink}
-use Rattle.nemo_job.specs.ByPlace.{ByPlace, Placed, first_fault}
-use Rattle.nemo_value.specs.declared.record.SinkRows.{SinkRows}
+use Rattle.nemo_transform.specs.FirstFault.{arisen_at, first_fault}
+use Rattle.nemo_transform.specs.Through.{Batch}
 pub use Rattle.nemo_transform.specs.Sinks.{does_sink}
+use Rattle.nemo_job.specs.HeldRows.{rows_held}
+use Rattle.nemo_job.specs.ByPlace.{ByPlace, Placed}
 use Rattle.nemo_job.specs.declared.held.Held.{Held}
-use Rattle.nemo_job.specs.declared.held.Located.{Located}
 use Rattle.nemo_job.specs.declared.copies.Node.{Node}
 
 -- a vertex without references to its parts
 abbrev pub node_of : Node → Placed
 node_of n = record { transform = n.transform.now; inputs = n.inputs }
 
-abbrev pub arisen_at : Located → Arisen ℕ
-arisen_at l = record { vertex = l.place; kind = l.kind; rec = l.rec }
+-- its transform
+abbrev pub transform_of : Node → Transform
+transform_of n = n.transform.now
 
--- rows, and the first fault that comes with them
-pub record Known : Type 0 where
-  pub rows : List Row
-  pub first : Option (Arisen ℕ)
-
-abbrev pub known : Held → Known
+abbrev pub known : Held → Batch
 known h = record { rows = rows_held h.rows; first = option_map arisen_at h.first }
 
-abbrev pub known_value : ByPlace → Known
+abbrev pub known_value : ByPlace → Batch
 known_value f = record { rows = f.rows; first = first_fault f.faults }
-
--- the lesser of two that may be there, and the first where they tie
-abbrev pub lesser : {X : Type 0} → (X → X → Ordering) → Option X → Option X → Option X
-lesser R None b = b
-lesser R (Some x) None = Some x
-lesser R (Some x) (Some y) = if is_lt (R y x) then Some y else Some x
 
 -- the answers of a vertex on what the vertices gave
 abbrev pub answers_at : List ByPlace → Placed → List Answer
@@ -75,16 +64,16 @@ pub record IsLast (ps : List Placed) (last : List (Option ℕ)) : Type 0 where
   pub only : (i u : ℕ) (p : Placed) → slice_get ps i ≡ Some p → slice_get last i ≡ Some (Some u) → (does_sink p.transform ≡ true) ⊎ IsTaken ps last i u
 
 -- Before the vertex of a place, what each vertex that reaches a sink gave is held as long as it is taken.
-pub record IsHeld (vals : List ByPlace) (last : List (Option ℕ)) (place : ℕ) (held : List Known) : Type 0 where
+pub record IsHeld (vals : List ByPlace) (last : List (Option ℕ)) (place : ℕ) (held : List Batch) : Type 0 where
   pub size : length held ≡ place
-  pub given : (k u : ℕ) (h : Known) → slice_get held k ≡ Some h → slice_get last k ≡ Some (Some u) → place ≤ u → h ≡ known_value (port vals k)
+  pub given : (k u : ℕ) (h : Batch) → slice_get held k ≡ Some h → slice_get last k ≡ Some (Some u) → place ≤ u → h ≡ known_value (port vals k)
 
 -- what the inputs gave is held
-abbrev pub Feeds : List ByPlace → List Known → List ℕ → Type 0
+abbrev pub Feeds : List ByPlace → List Batch → List ℕ → Type 0
 Feeds vals held inputs = map (slice_get held) inputs ≡ map (λ j. Some (known_value (port vals j))) inputs
 
 -- Rows may have been let go where the vertex of this place is the last that takes them, and nothing else changed.
-pub record IsReleased (last : List (Option ℕ)) (place : ℕ) (old new : List Known) : Type 0 where
+pub record IsReleased (last : List (Option ℕ)) (place : ℕ) (old new : List Batch) : Type 0 where
   pub size : length new ≡ length old
   pub first : map (λ h. h.first) new ≡ map (λ h. h.first) old
   pub rows : (k : ℕ) → ¬ (slice_get last k ≡ Some (Some place)) → slice_get new k ≡ slice_get old k
@@ -92,7 +81,7 @@ pub record IsReleased (last : List (Option ℕ)) (place : ℕ) (old new : List K
 ---- what the sinks get
 
 -- what each sink gave is held
-pub record IsGiven (ps : List Placed) (vals : List ByPlace) (held : List Known) : Type 0 where
+pub record IsGiven (ps : List Placed) (vals : List ByPlace) (held : List Batch) : Type 0 where
   pub size : length held ≡ length ps
   pub sinks : (k : ℕ) (p : Placed) → slice_get ps k ≡ Some p → does_sink p.transform ≡ true → slice_get held k ≡ Some (known_value (port vals k))
 

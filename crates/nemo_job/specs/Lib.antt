@@ -10,12 +10,10 @@ pub mod Lines
 pub mod Mean
 pub mod NamesBound
 pub mod Nodes
-pub mod Passed
 pub mod Paths
 pub mod Readers
 pub mod Refusals
 pub mod Sinks
 pub mod Sites
-pub mod Through
 pub mod Unrolled
 pub mod Walks

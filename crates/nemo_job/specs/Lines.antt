@@ -1,8 +1,8 @@
 -- Copies that go row by row, one after another.
 use Rattle.std.specs.Prelude.{◌≡◌, ℕ, suc, ◌<◌, ◌≤◌, ◌-◌, List, length, map, slice_get, Option, Some, true}
+use Rattle.nemo_transform.specs.RowByRow.{goes_by_row}
 use Rattle.nemo_job.specs.Held.{node_of}
 use Rattle.nemo_job.specs.ByPlace.{Placed}
-use Rattle.nemo_job.specs.Through.{goes_by_row}
 use Rattle.nemo_job.specs.declared.copies.Node.{Node}
 
 -- the copy of a place goes row by row, and is the only one that takes what the one before it gives

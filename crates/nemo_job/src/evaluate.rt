@@ -1,27 +1,27 @@
 ghost use Rattle.std.specs.Prelude.{◌≡◌, ◌<◌, ◌≤◌, ◌+◌, [], ◌∷◌, ◌++◌, replicate, if◌then◌else◌, None, length, map, option_map, option_to_list, true, IfOk, IfErr, OnOk};
-ghost use Rattle.nemo_job.specs.HeldRows.{rows_held};
-ghost use Rattle.nemo_job.specs.Lines.{IsJoined, IsLineOf, Joins};
-ghost use Rattle.nemo_job.specs.Through.{clean};
 ghost use Rattle.nemo_value.specs.Order.{record_cmp};
+ghost use Rattle.nemo_value.specs.SinkOrder.{by_name, with_sorted};
 ghost use Rattle.nemo_value.specs.Sorting.{sorted};
 ghost use Rattle.nemo_value.specs.Texts.{all_new};
-ghost use Rattle.nemo_job.specs.ByPlace.{first_fault, values};
 ghost use Rattle.nemo_transform.specs.ArisenOrder.{place_cmp};
-ghost use Rattle.nemo_job.specs.Ends.{IsEndOf, fault_end};
-ghost use Rattle.nemo_job.specs.Held.{IsGiven, IsHeld, IsLast, IsPlaced, arisen_at, faults_given, known, lesser, node_of, sink_at, sinks_given};
-ghost use Rattle.nemo_job.specs.Nodes.{copy_of};
-ghost use Rattle.nemo_job.specs.Sinks.{job_rows, job_faults};
+ghost use Rattle.nemo_transform.specs.FirstFault.{arisen_at, first_fault, lesser_by};
 ghost use Rattle.nemo_transform.specs.Sinks.{does_sink};
-ghost use Rattle.nemo_value.specs.SinkOrder.{by_name, with_sorted};
+ghost use Rattle.nemo_transform.specs.Through.{clean};
+ghost use Rattle.nemo_job.specs.ByPlace.{values};
+ghost use Rattle.nemo_job.specs.Ends.{IsEndOf, fault_end};
+ghost use Rattle.nemo_job.specs.Held.{IsGiven, IsHeld, IsLast, IsPlaced, faults_given, known, node_of, sink_at, sinks_given};
+ghost use Rattle.nemo_job.specs.HeldRows.{rows_held};
+ghost use Rattle.nemo_job.specs.Lines.{IsJoined, IsLineOf, Joins};
+ghost use Rattle.nemo_job.specs.Nodes.{copy_of};
+ghost use Rattle.nemo_job.specs.Sinks.{job_faults, job_rows};
 ghost use Rattle.nemo_job.specs.Unrolled.{path_in};
 
 use crate::copies::Node;
-use crate::held::{Held, Located, Rows, earlier, line_given, nothing, step};
+use crate::held::{Held, Rows, line_given, nothing, step};
 use crate::job::Job;
 use crate::readers::last_readers;
-use crate::through::goes_by_row;
 use crate::unrolling::unroll;
-use nemo_transform::Transform;
+use nemo_transform::{Located, Transform, earlier};
 use nemo_value::{
     Kind, List, Name, NoMemory, Record, SinkRows, Text, TryCopy, records_of, sorted_rows,
 };
@@ -128,7 +128,7 @@ fn hold_next<'a>(
     ensures within { OnOk result (length held.new.items ≤ length nodes.now) }
 {
     let place = held.len();
-    if last[place].is_some() && goes_by_row(nodes[place].transform) {
+    if last[place].is_some() && nodes[place].transform.goes_by_row() {
         let end = end_of_line(nodes, last, place);
         hold_line(alloc, nodes, place, end, last, held)
     } else {
@@ -160,7 +160,7 @@ fn goes_on(nodes: &[Node<'_>], last: &[Option<usize>], place: usize) -> bool
     requires some { 0 < place }
     ensures { result ≡ true → Joins nodes.now last.now place }
 {
-    last[place - 1] == Some(place) && goes_by_row(nodes[place].transform)
+    last[place - 1] == Some(place) && nodes[place].transform.goes_by_row()
 }
 
 /// Holds what the last copy of a line gives, which goes from a place to another one. What the others give is taken by it
@@ -237,7 +237,7 @@ impl Ending {
     /// What a vertex gave, if it is a sink.
     fn add(&mut self, alloc: Global, transform: &Transform, given: Held<'_>) -> Result<(), NoMemory>
         ensures sinks { OnOk result (self.new.sinks.items ≡ self.old.sinks.items ++ map with_sorted (option_to_list (sink_at transform.now (rows_held given.entry.rows)))) }
-        ensures first { OnOk result (option_map arisen_at self.new.first ≡ lesser place_cmp (option_map arisen_at self.old.first) (if does_sink transform.now then option_map arisen_at given.entry.first else None)) }
+        ensures first { OnOk result (option_map arisen_at self.new.first ≡ lesser_by place_cmp (option_map arisen_at self.old.first) (if does_sink transform.now then option_map arisen_at given.entry.first else None)) }
     {
         if let Transform::Sink { name } = transform {
             let Held { rows, first } = given;

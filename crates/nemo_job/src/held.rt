@@ -1,29 +1,23 @@
 ghost use Rattle.std.specs.Prelude.{◌≡◌, ◌+◌, ◌<◌, ◌≤◌, ◌^◌, ℕ, List as Sequence, [], ◌∷◌, All, Option, length, map, option_map, slice_get, Some, None, IfOk, OnOk, IsTrue, true};
-ghost use Rattle.nemo_job.specs.HeldRows.{rows_held};
-ghost use Rattle.nemo_job.specs.Passed.{passed, transform_of};
-ghost use Rattle.nemo_job.specs.Through as spec;
-ghost use Rattle.nemo_job.specs.Through.{clean, goes_by_row};
-ghost use Rattle.nemo_transform.specs.Brought.{port, all_rows, all_faults, arisen, blocking};
+ghost use Rattle.nemo_transform.specs.ArisenOrder.{place_cmp};
+ghost use Rattle.nemo_transform.specs.Brought.{all_faults, all_rows, arisen, blocking, port};
+ghost use Rattle.nemo_transform.specs.FirstFault.{arisen_at, first_fault, lesser_by};
 ghost use Rattle.nemo_transform.specs.Gives.{answers, is_filled, own_faults, rows_in};
 ghost use Rattle.nemo_transform.specs.Ports.{kinds_of};
+ghost use Rattle.nemo_transform.specs.RowByRow.{goes_by_row};
 ghost use Rattle.nemo_transform.specs.Soundness.{is_sound};
-ghost use Rattle.nemo_job.specs.ByPlace.{ByPlace, first_fault};
-ghost use Rattle.nemo_transform.specs.ArisenOrder.{place_cmp};
-ghost use Rattle.nemo_job.specs.Held.{Feeds, IsReleased, Known, answers_at, answers_on, arisen_at, known, known_value, lesser, node_of, value_at};
+ghost use Rattle.nemo_transform.specs.Through as spec;
+ghost use Rattle.nemo_transform.specs.Through.{Batch, clean, passed};
+ghost use Rattle.nemo_job.specs.ByPlace.{ByPlace};
+ghost use Rattle.nemo_job.specs.Held.{Feeds, IsReleased, answers_at, answers_on, known, known_value, node_of, transform_of, value_at};
+ghost use Rattle.nemo_job.specs.HeldRows.{rows_held};
 
 use crate::copies::Node;
-use crate::through::{Passed, all_through};
-use nemo_transform::{Fault, Given, Transform, ports, transformed};
-use nemo_value::{Kind, List, NoMemory, Record, Row, Table, TryCopy, rows_of};
+use nemo_transform::{
+    Given, Located, Passed, Transform, all_through, earlier, first_own, ports, transformed,
+};
+use nemo_value::{NoMemory, Record, Row, Table, TryCopy, rows_of};
 use std::alloc::Global;
-
-/// A fault, with the place of the vertex where it arose. Faults are ordered by place, kind and record.
-#[derive(PartialEq, Eq, PartialOrd, Ord, Drop)]
-pub(crate) struct Located {
-    pub(crate) place: usize,
-    pub(crate) kind: Kind,
-    pub(crate) rec: Record,
-}
 
 /// The rows that a vertex gave: records that are lent by the job, or rows that were made.
 #[derive(Drop)]
@@ -118,7 +112,7 @@ pub(crate) fn line_given<'a>(
     requires by_row { All (λ n. goes_by_row n.transform.now ≡ true) line.now }
     requires within { input < length held.old.items }
     requires noted { length held.old.items ≤ length last.now }
-    ensures given { IfOk result (λ h. (k : Known) → slice_get (map known held.old.items) input ≡ Some k → known h ≡ spec.all_through place (map transform_of line.now) k) }
+    ensures given { IfOk result (λ h. (k : Batch) → slice_get (map known held.old.items) input ≡ Some k → known h ≡ spec.all_through place (map transform_of line.now) k) }
     ensures released { OnOk result (IsReleased last.now place (map known held.old.items) (map known held.new.items)) }
 {
     let source = &held[input];
@@ -145,7 +139,19 @@ fn through_held(
     ensures { IfOk result (λ p. passed p ≡ spec.all_through place (map transform_of line.now) (clean (rows_held rows.now))) }
 {
     let rows = rows.lend(alloc)?;
-    all_through(alloc, line, place, rows.as_slice())
+    let transforms = transforms_of(alloc, line)?;
+    all_through(alloc, transforms.as_slice(), place, rows.as_slice())
+}
+
+/// The transforms of the vertices of a line.
+fn transforms_of<'a>(alloc: Global, line: &[Node<'a>]) -> Result<Vec<&'a Transform>, NoMemory>
+    ensures { IfOk result (λ ts. map (λ t. t.now) ts.items ≡ map transform_of line.now) }
+{
+    let mut transforms = Vec::with_capacity(alloc, line.len())?;
+    for node in line {
+        transforms.push(node.transform)?;
+    }
+    Ok(transforms)
 }
 
 /// What a sink gives: what its input gave. Rows that no later vertex takes are moved.
@@ -262,18 +268,6 @@ fn given_on(
     transformed(alloc, transform, first.as_slice(), second.as_slice())
 }
 
-/// The first of the own faults of the vertex of a place, which are in order.
-pub(crate) fn first_own(place: usize, faults: List<Fault>) -> Option<Located>
-    ensures { option_map arisen_at result ≡ option_map (arisen place) (slice_get faults 0) }
-{
-    let first = faults.into_vec().into_iter().next()?;
-    Some(Located {
-        place,
-        kind: first.kind,
-        rec: first.rec,
-    })
-}
-
 /// The rows of a port, and none where there is no such port.
 fn rows_at<'b>(
     alloc: Global,
@@ -336,17 +330,6 @@ fn is_blocked(transform: &Transform, inputs: &[usize], held: &[Held<'_>]) -> boo
         }
     }
     false
-}
-
-/// The earlier of two faults that may be there.
-pub(crate) fn earlier(a: Option<Located>, b: Option<Located>) -> Option<Located>
-    ensures { option_map arisen_at result ≡ lesser place_cmp (option_map arisen_at a) (option_map arisen_at b) }
-{
-    match (a, b) {
-        (Some(x), Some(y)) => Some(x.min(y)),
-        (Some(x), None) => Some(x),
-        (None, b) => b,
-    }
 }
 
 fn copied(alloc: Global, fault: &Option<Located>) -> Result<Option<Located>, NoMemory>

@@ -12,7 +12,6 @@ mod readers;
 mod refusals;
 mod scope;
 mod site;
-mod through;
 mod unrolling;
 mod vertex;
 

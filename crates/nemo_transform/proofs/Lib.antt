@@ -1,6 +1,7 @@
 pub mod AnswerLaws
 pub mod ApartLists
 pub mod FaultOrders
+pub mod FirstFaults
 pub mod FirstFields
 pub mod FoldSteps
 pub mod FoldingWords
@@ -12,6 +13,7 @@ pub mod Keeping
 pub mod KeyOrder
 pub mod LawsByKey
 pub mod MapSteps
+pub mod PartsThrough
 pub mod ReduceAnswers
 pub mod RowSteps
 pub mod Rows

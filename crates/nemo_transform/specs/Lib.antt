@@ -1,6 +1,7 @@
 pub mod ArisenOrder
 pub mod Brought
 pub mod FaultOrder
+pub mod FirstFault
 pub mod FirstField
 pub mod Folds
 pub mod Gives
@@ -12,4 +13,5 @@ pub mod RowByRow
 pub mod Sinks
 pub mod Soundness
 pub mod Tasks
+pub mod Through
 pub mod Words

@@ -1,5 +1,5 @@
 -- Transforms that go row by row.
-use Rattle.std.specs.Prelude.{◌≡◌, List, [], ◌∷◌, length, take, slice_get, Result, Ok, Err}
+use Rattle.std.specs.Prelude.{◌≡◌, List, [], ◌∷◌, Bool, true, false, length, take, slice_get, Result, Ok, Err}
 use Rattle.nemo_value.specs.Val.{val}
 use Rattle.nemo_value.specs.declared.evaluate.EvalFault.{EvalFault}
 use Rattle.nemo_value.specs.declared.evaluate.EvalFault.TheVariants.{Fault, NoMemory}
@@ -7,6 +7,14 @@ use Rattle.nemo_value.specs.declared.expr.Kind.{Kind}
 use Rattle.nemo_transform.specs.Gives.{Row, row_of, alone, where_so, then_rows, emitted, words_in}
 use Rattle.nemo_transform.specs.declared.transform.Transform.{Transform}
 use Rattle.nemo_transform.specs.declared.transform.Transform.TheVariants.{Map, Filter, Emit, Words}
+
+-- whether a transform gives of each row what it gives of that alone, and has one port
+abbrev pub goes_by_row : Transform → Bool
+goes_by_row (Map out) = true
+goes_by_row (Filter cond) = true
+goes_by_row (Emit outs) = true
+goes_by_row (Words field) = true
+goes_by_row _ = false
 
 -- what a transform that goes row by row gives of a row; the others have the row itself here
 abbrev pub rows_for : Transform → Row → Result (List Row) Kind

@@ -83,6 +83,7 @@ pub enum Transform {
 impl Transform {
     ghost use Rattle.std.specs.Prelude.{◌≡◌, slice_get};
     ghost use Rattle.nemo_transform.specs.Ports.{kinds_of};
+    ghost use Rattle.nemo_transform.specs.RowByRow.{goes_by_row};
 
     /// The kind of port `k`, counted from 0, if there is one.
     pub fn port(&self, k: u32) -> Option<PortKind>
@@ -103,6 +104,25 @@ impl Transform {
                 1 => Some(PortKind::Side),
                 _ => None,
             },
+        }
+    }
+
+    /// Whether the transform gives of each row what it gives of that alone, and has one port.
+    pub fn goes_by_row(&self) -> bool
+        ensures { result ≡ goes_by_row self.now }
+    {
+        match self {
+            Transform::Map { .. }
+            | Transform::Filter { .. }
+            | Transform::Emit { .. }
+            | Transform::Words { .. } => true,
+            Transform::Source { .. }
+            | Transform::Union { .. }
+            | Transform::Reduce { .. }
+            | Transform::Distinct
+            | Transform::Join
+            | Transform::SideJoin
+            | Transform::Sink { .. } => false,
         }
     }
 }

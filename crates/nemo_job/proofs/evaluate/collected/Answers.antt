@@ -3,8 +3,9 @@ use Rattle.std.specs.Prelude.{option_map}
 use Rattle.std.proofs.lemmas.Iterator.{YieldsList-from_zip, YieldsList-from_slice}
 use Rattle.std.proofs.lemmas.Iterator.Adapters.{YieldsList-from_vec}
 use Rattle.std.proofs.lemmas.Iterator.Consumers.{YieldsList-turn, YieldsList-end}
+use Rattle.nemo_transform.specs.FirstFault.{arisen_at}
 use Rattle.nemo_job.specs.ByPlace.{values}
-use Rattle.nemo_job.specs.Held.{arisen_at, node_of}
+use Rattle.nemo_job.specs.Held.{node_of}
 use Rattle.nemo_job.proofs.Collecting.{SoFar, collected_added, collected_all}
 use Rattle.nemo_job.proofs.evaluate.collected.Goals as goal
 

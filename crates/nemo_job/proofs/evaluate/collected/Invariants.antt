@@ -1,7 +1,8 @@
 use Rattle.std.proofs.Common.{length, map}
 use Rattle.std.specs.Prelude.{option_map}
+use Rattle.nemo_transform.specs.FirstFault.{arisen_at}
 use Rattle.nemo_job.specs.ByPlace.{values}
-use Rattle.nemo_job.specs.Held.{arisen_at, node_of}
+use Rattle.nemo_job.specs.Held.{node_of}
 use Rattle.nemo_job.proofs.Collecting.{SoFar}
 use Rattle.nemo_job.proofs.evaluate.collected.Given as goal
 

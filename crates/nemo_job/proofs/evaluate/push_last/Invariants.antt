@@ -1,6 +1,6 @@
 use Rattle.std.proofs.Common.{◌≡◌, [], ◌++◌, map, replicate}
+use Rattle.nemo_transform.specs.Through.{clean}
 use Rattle.nemo_job.specs.Held.{known}
-use Rattle.nemo_job.specs.Through.{clean}
 use Rattle.nemo_job.proofs.evaluate.push_last.Given as goal
 
 -- so many of which nothing is held stand behind the others

@@ -2,11 +2,11 @@ use Rattle.std.proofs.Common.{◌≡◌, ◌∙◌, sym, ap, List, map}
 use Rattle.std.specs.Prelude.{slice_get, option_map}
 use Rattle.nemo_transform.specs.Brought.{port, all_rows, arisen}
 use Rattle.nemo_transform.specs.Gives.{rows_in, own_faults}
+use Rattle.nemo_transform.proofs.FirstFaults.{first_of_own}
 use Rattle.nemo_job.specs.ByPlace.{ByPlace}
 use Rattle.nemo_job.specs.Held.{Feeds, known, node_of, answers_at, answers_on}
 use Rattle.nemo_job.proofs.Applying.{no_first, only_rows, source_answers, union_answers, answers_once}
 use Rattle.nemo_job.proofs.Feeding.{fed_through}
-use Rattle.nemo_job.proofs.FirstFaults.{first_of_own}
 use Rattle.nemo_job.proofs.held.applied_at.Goals as goal
 
 pub returns-in-Source-clause-rows : goal.returns-in-Source-clause-rows

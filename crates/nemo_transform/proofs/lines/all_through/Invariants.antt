@@ -1,14 +1,13 @@
 use Rattle.std.proofs.Common.{◌≡◌, ◌-◌, ◌≤◌, length, map, take}
-use Rattle.nemo_job.specs.Passed.{passed, transform_of}
-use Rattle.nemo_job.specs.Through as spec
-use Rattle.nemo_job.specs.Through.{clean}
-use Rattle.nemo_job.proofs.through.all_through.Given as goal
+use Rattle.nemo_transform.specs.Through as spec
+use Rattle.nemo_transform.specs.Through.{clean, passed}
+use Rattle.nemo_transform.proofs.lines.all_through.Given as goal
 
 -- the rows so far have gone through
 abbrev pub invariant-loop-start : goal.invariant-loop-start
 invariant-loop-start l = record {
   within : l.start ≤ length l.rows;
-  through : passed l.all ≡ spec.all_through l.place (map transform_of l.line) (clean (take l.start l.rows));
+  through : passed l.all ≡ spec.all_through l.place (map (λ t. t.now) l.line) (clean (take l.start l.rows));
 }
 
 abbrev pub decreases-loop-start : goal.decreases-loop-start

@@ -6,28 +6,26 @@ use Rattle.std.proofs.lemmas.Option.{slice_get-map}
 use Rattle.std.specs.BTreeSet.{insert_key}
 use Rattle.std.specs.Cmp.{IsTotalOrder, nat_cmp_total, on_total, partial_order_from_total, then_agrees, then_po, total}
 use Rattle.std.specs.FinMap.{IsAntisymmetric, nat_cmp-IsAntisymmetric}
-use Rattle.std.specs.Ordering.{is_lt, nat_cmp, ordering_reverse, ordering_then, match_ordering}
+use Rattle.std.specs.Ordering.{is_lt, nat_cmp, ordering_reverse, ordering_then, match_ordering, ord_min}
 use Rattle.std.specs.declared.cmp.Ordering.TheVariants.{Less, Equal, Greater}
+use Rattle.nemo_value.specs.Ascending.{ascending}
+use Rattle.nemo_value.specs.Order.{record_cmp}
 use Rattle.nemo_value.proofs.AscendingLists.{Before, Rises, one_rise, rises_ascending, in_ascending}
 use Rattle.nemo_value.proofs.SortedLists.{IsStrict}
-use Rattle.nemo_value.specs.Ascending.{ascending}
+use Rattle.nemo_value.proofs.KindPlaces.{kind_cmp_is}
 use Rattle.nemo_transform.specs.Brought.{Arisen, arisen}
 use Rattle.nemo_transform.specs.FaultOrder.{fault_cmp}
 use Rattle.nemo_transform.specs.Gives.{Answer, fault_in, own_faults, is_filled}
 use Rattle.nemo_transform.specs.declared.fault.Fault.{Fault}
-use Rattle.nemo_transform.proofs.FaultOrders.{fault_strict, first_ties, second_ties}
-use Rattle.nemo_job.specs.ByPlace.{first_fault}
+use Rattle.nemo_transform.specs.FirstFault.{first_fault, lesser_by, arisen_at}
 use Rattle.nemo_transform.specs.ArisenOrder.{place_cmp}
-use Rattle.nemo_job.specs.Held.{lesser, arisen_at}
-use Rattle.nemo_job.specs.declared.held.Located.{Located}
-use Rattle.nemo_job.specs.contracts.held.LocatedOrd.TheImpl.{ghosts}
-use Rattle.nemo_value.proofs.KindPlaces.{kind_cmp_is}
-use Rattle.nemo_value.specs.Order.{record_cmp}
-use Rattle.std.specs.Ordering.{ord_min}
+use Rattle.nemo_transform.specs.declared.fault.Located.{Located}
+use Rattle.nemo_transform.specs.contracts.fault.LocatedOrd.TheImpl.{ghosts}
+use Rattle.nemo_transform.proofs.FaultOrders.{fault_strict, first_ties, second_ties}
 
 module _ {K : Type 0} (R : K → K → Ordering) (o : IsStrict R) where
   -- the head of a list with an item put at its place
-  head_placed : (x : K) (l : List K) → slice_get (insert_key R l x) 0 ≡ lesser R (Some x) (slice_get l 0)
+  head_placed : (x : K) (l : List K) → slice_get (insert_key R l x) 0 ≡ lesser_by R (Some x) (slice_get l 0)
   head_placed x [] = refl
   head_placed x (y ∷ ys) = go (R x y) refl (R y x) (o.total.antisymm y x)
     where
@@ -52,39 +50,39 @@ module _ {K : Type 0} (R : K → K → Ordering) (o : IsStrict R) where
       go Equal e s f = ap (λ w. is_lt (R z w)) (o.one x y e) ∙ p
       go Greater e s f = let k : false ≡ true = sym q ∙ ap is_lt (o.total.antisymm y x ∙ ap ordering_reverse e) in cc
 
-  lesser_three : (x y z : K) → lesser R (Some x) (lesser R (Some y) (Some z)) ≡ lesser R (lesser R (Some x) (Some y)) (Some z)
+  lesser_three : (x y z : K) → lesser_by R (Some x) (lesser_by R (Some y) (Some z)) ≡ lesser_by R (lesser_by R (Some x) (Some y)) (Some z)
   lesser_three x y z = go (is_lt (R z y)) refl (is_lt (R y x)) refl (is_lt (R z x)) refl
     where
-      go : (b : Bool) → is_lt (R z y) ≡ b → (c : Bool) → is_lt (R y x) ≡ c → (d : Bool) → is_lt (R z x) ≡ d → lesser R (Some x) (cond b (Some z) (Some y)) ≡ lesser R (cond c (Some y) (Some x)) (Some z)
+      go : (b : Bool) → is_lt (R z y) ≡ b → (c : Bool) → is_lt (R y x) ≡ c → (d : Bool) → is_lt (R z x) ≡ d → lesser_by R (Some x) (cond b (Some z) (Some y)) ≡ lesser_by R (cond c (Some y) (Some x)) (Some z)
       go true p true q d r =
           ap (λ w. cond (is_lt w) (Some z) (Some x)) (o.total.trans z y x (lt_less (R z y) p) (lt_less (R y x) q)) ∙ sym (ap (λ w. cond w (Some z) (Some y)) p)
       go true p false q d r = refl
       go false p true q d r = ap (λ w. cond w (Some y) (Some x)) q ∙ sym (ap (λ w. cond w (Some z) (Some y)) p)
       go false p false q d r = ap (λ w. cond w (Some y) (Some x)) q ∙ sym (ap (λ w. cond w (Some z) (Some x)) (not_below x y z p q))
 
-  lesser_joined : (x : K) (a b : Option K) → lesser R (Some x) (lesser R a b) ≡ lesser R (lesser R (Some x) a) b
+  lesser_joined : (x : K) (a b : Option K) → lesser_by R (Some x) (lesser_by R a b) ≡ lesser_by R (lesser_by R (Some x) a) b
   lesser_joined x None b = refl
   lesser_joined x (Some y) None = go (is_lt (R y x))
     where
-      go : (b : Bool) → cond b (Some y) (Some x) ≡ lesser R (cond b (Some y) (Some x)) None
+      go : (b : Bool) → cond b (Some y) (Some x) ≡ lesser_by R (cond b (Some y) (Some x)) None
       go true = refl
       go false = refl
   lesser_joined x (Some y) (Some z) = lesser_three x y z
 
-  pub lesser_joins : (a b c : Option K) → lesser R a (lesser R b c) ≡ lesser R (lesser R a b) c
+  pub lesser_joins : (a b c : Option K) → lesser_by R a (lesser_by R b c) ≡ lesser_by R (lesser_by R a b) c
   lesser_joins None b c = refl
   lesser_joins (Some x) b c = lesser_joined x b c
 
-  pub lesser_none : (a : Option K) → lesser R a None ≡ a
+  pub lesser_none : (a : Option K) → lesser_by R a None ≡ a
   lesser_none None = refl
   lesser_none (Some x) = refl
 
-  pub first_of_both : (xs ys : List K) → slice_get (ascending R (xs ++ ys)) 0 ≡ lesser R (slice_get (ascending R xs) 0) (slice_get (ascending R ys) 0)
+  pub first_of_both : (xs ys : List K) → slice_get (ascending R (xs ++ ys)) 0 ≡ lesser_by R (slice_get (ascending R xs) 0) (slice_get (ascending R ys) 0)
   first_of_both [] ys = refl
   first_of_both (x ∷ xs) ys =
-      head_placed x (ascending R (xs ++ ys)) ∙ ap (lesser R (Some x)) (first_of_both xs ys)
+      head_placed x (ascending R (xs ++ ys)) ∙ ap (lesser_by R (Some x)) (first_of_both xs ys)
       ∙ lesser_joined x (slice_get (ascending R xs) 0) (slice_get (ascending R ys) 0)
-      ∙ sym (ap (λ a. lesser R a (slice_get (ascending R ys) 0)) (head_placed x (ascending R xs)))
+      ∙ sym (ap (λ a. lesser_by R a (slice_get (ascending R ys) 0)) (head_placed x (ascending R xs)))
 
   -- what rises is in order already
   pub ascending_risen : (xs : List K) → Rises R xs → ascending R xs ≡ xs
@@ -111,7 +109,7 @@ place_one a b h =
 pub place_strict : IsStrict place_cmp
 place_strict = record { total = place_total; one = place_one }
 
-pub first_fault_both : (xs ys : List (Arisen ℕ)) → first_fault (xs ++ ys) ≡ lesser place_cmp (first_fault xs) (first_fault ys)
+pub first_fault_both : (xs ys : List (Arisen ℕ)) → first_fault (xs ++ ys) ≡ lesser_by place_cmp (first_fault xs) (first_fault ys)
 first_fault_both xs ys = first_of_both place_cmp place_strict xs ys
 
 pub self_equal : (r : Ordering) → r ≡ ordering_reverse r → r ≡ Equal
@@ -133,7 +131,7 @@ first_of_own place given =
     ap (λ l. slice_get l 0) (ascending_risen place_cmp place_strict (map (arisen place) (own_faults given)) (rises_arisen place (own_faults given) (rises_ascending fault_cmp fault_strict (filter_map fault_in given))))
     ∙ slice_get-map (arisen place) (own_faults given) 0
 
-some_lesser : {X : Type 0} (R : X → X → Ordering) (x : X) (b : Option X) → is_some (lesser R (Some x) b) ≡ true
+some_lesser : {X : Type 0} (R : X → X → Ordering) (x : X) (b : Option X) → is_some (lesser_by R (Some x) b) ≡ true
 some_lesser R x None = refl
 some_lesser R x (Some y) = go (is_lt (R y x))
   where
@@ -154,10 +152,10 @@ derived_cmp = ghosts.cmp
 located_cmp_is : (a b : Located) → derived_cmp a b ≡ place_cmp (arisen_at a) (arisen_at b)
 located_cmp_is a b = ap (λ r. ordering_then (nat_cmp a.place b.place) (ordering_then r (record_cmp a.rec b.rec))) (kind_cmp_is a.kind b.kind)
 
-pub least_is : (x y : Located) → Some (arisen_at (ord_min derived_cmp x y)) ≡ lesser place_cmp (Some (arisen_at x)) (Some (arisen_at y))
+pub least_is : (x y : Located) → Some (arisen_at (ord_min derived_cmp x y)) ≡ lesser_by place_cmp (Some (arisen_at x)) (Some (arisen_at y))
 least_is x y = go (derived_cmp y x) (located_cmp_is y x)
   where
-    go : (r : Ordering) → r ≡ place_cmp (arisen_at y) (arisen_at x) → Some (arisen_at (cond (is_lt r) y x)) ≡ lesser place_cmp (Some (arisen_at x)) (Some (arisen_at y))
+    go : (r : Ordering) → r ≡ place_cmp (arisen_at y) (arisen_at x) → Some (arisen_at (cond (is_lt r) y x)) ≡ lesser_by place_cmp (Some (arisen_at x)) (Some (arisen_at y))
     go Less e = ap (λ w. cond (is_lt w) (Some (arisen_at y)) (Some (arisen_at x))) e
     go Equal e = ap (λ w. cond (is_lt w) (Some (arisen_at y)) (Some (arisen_at x))) e
     go Greater e = ap (λ w. cond (is_lt w) (Some (arisen_at y)) (Some (arisen_at x))) e

@@ -1,12 +1,12 @@
 ghost use Rattle.std.specs.Prelude.{◌≡◌, ◌+◌, ◌<◌, ◌≤◌, ◌^◌, All, IsTrue, IfOk, OnOk, length, map, true};
+ghost use Rattle.nemo_transform.specs.RowByRow.{goes_by_row};
 ghost use Rattle.nemo_transform.specs.Soundness.{is_sound};
-ghost use Rattle.nemo_job.specs.Passed.{passed, transform_of};
-ghost use Rattle.nemo_job.specs.Through as spec;
-ghost use Rattle.nemo_job.specs.Through.{both, clean, goes_by_row, through};
+ghost use Rattle.nemo_transform.specs.Through as spec;
+ghost use Rattle.nemo_transform.specs.Through.{both, clean, passed, through};
 
-use crate::copies::Node;
-use crate::held::{Located, earlier, first_own};
-use nemo_transform::{Given, Transform, transformed};
+use crate::applying::{Given, transformed};
+use crate::fault::{Located, earlier, first_own};
+use crate::transform::Transform;
 use nemo_value::{NoMemory, Row, Table};
 use std::alloc::Global;
 
@@ -15,9 +15,9 @@ const PART: usize = 1024;
 
 /// What vertices that go row by row, one after another, made of rows, and the first fault that arose in them.
 #[derive(Drop)]
-pub(crate) struct Passed {
-    pub(crate) rows: Table,
-    pub(crate) first: Option<Located>,
+pub struct Passed {
+    pub rows: Table,
+    pub first: Option<Located>,
 }
 
 impl Passed {
@@ -25,9 +25,9 @@ impl Passed {
     fn add(&mut self, more: Passed) -> Result<(), NoMemory>
         ensures { OnOk result (passed self.new ≡ both (passed self.old) (passed more)) }
     {
-        let Passed { rows, first } = more;
+        let Passed { rows, first: later } = more;
         self.rows.append(rows)?;
-        self.first = earlier(self.first.take(), first);
+        self.first = earlier(self.first.take(), later);
         Ok(())
     }
 
@@ -43,38 +43,19 @@ impl Passed {
     }
 }
 
-/// Whether a transform goes row by row.
-pub(crate) fn goes_by_row(transform: &Transform) -> bool
-    ensures { result ≡ goes_by_row transform.now }
-{
-    match transform {
-        Transform::Map { .. }
-        | Transform::Filter { .. }
-        | Transform::Emit { .. }
-        | Transform::Words { .. } => true,
-        Transform::Source { .. }
-        | Transform::Union { .. }
-        | Transform::Reduce { .. }
-        | Transform::Distinct
-        | Transform::Join
-        | Transform::SideJoin
-        | Transform::Sink { .. } => false,
-    }
-}
-
-/// What the vertices of a line, of which the first has that place, make of rows: these go through all of them a part at
-/// a time, so that what lies between two vertices is small.
-pub(crate) fn all_through(
+/// What the vertices of a line, which go row by row and of which the first has that place, make of rows: these go through
+/// all of them a part at a time, so that what lies between two vertices is small.
+pub fn all_through(
     alloc: Global,
-    line: &[Node<'_>],
+    line: &[&Transform],
     place: usize,
     rows: &[Row<'_>],
 ) -> Result<Passed, NoMemory>
     requires some { 1 ≤ length line.now }
     requires fits { place + length line.now < 2 ^ 64 }
-    requires sound { All (λ n. IsTrue (is_sound n.transform.now)) line.now }
-    requires by_row { All (λ n. goes_by_row n.transform.now ≡ true) line.now }
-    ensures { IfOk result (λ p. passed p ≡ spec.all_through place (map transform_of line.now) (clean rows.now)) }
+    requires sound { All (λ t. IsTrue (is_sound t.now)) line.now }
+    requires by_row { All (λ t. goes_by_row t.now ≡ true) line.now }
+    ensures { IfOk result (λ p. passed p ≡ spec.all_through place (map (λ t. t.now) line.now) (clean rows.now)) }
 {
     let mut all = Passed {
         rows: Table::new(alloc),
@@ -92,15 +73,15 @@ pub(crate) fn all_through(
 /// What the vertices make of some rows more comes behind.
 fn add_part(
     alloc: Global,
-    line: &[Node<'_>],
+    line: &[&Transform],
     place: usize,
     part: &[Row<'_>],
     all: &mut Passed,
 ) -> Result<(), NoMemory>
     requires some { 1 ≤ length line.now }
     requires fits { place + length line.now < 2 ^ 64 }
-    requires sound { All (λ n. IsTrue (is_sound n.transform.now)) line.now }
-    ensures { OnOk result (passed all.new ≡ both (passed all.old) (spec.all_through place (map transform_of line.now) (clean part.now))) }
+    requires sound { All (λ t. IsTrue (is_sound t.now)) line.now }
+    ensures { OnOk result (passed all.new ≡ both (passed all.old) (spec.all_through place (map (λ t. t.now) line.now) (clean part.now))) }
 {
     let more = part_through(alloc, line, place, part)?;
     all.add(more)
@@ -109,18 +90,18 @@ fn add_part(
 /// What the vertices make of some rows, which go through one vertex after another.
 fn part_through(
     alloc: Global,
-    line: &[Node<'_>],
+    line: &[&Transform],
     place: usize,
     part: &[Row<'_>],
 ) -> Result<Passed, NoMemory>
     requires some { 1 ≤ length line.now }
     requires fits { place + length line.now < 2 ^ 64 }
-    requires sound { All (λ n. IsTrue (is_sound n.transform.now)) line.now }
-    ensures { IfOk result (λ p. passed p ≡ spec.all_through place (map transform_of line.now) (clean part.now)) }
+    requires sound { All (λ t. IsTrue (is_sound t.now)) line.now }
+    ensures { IfOk result (λ p. passed p ≡ spec.all_through place (map (λ t. t.now) line.now) (clean part.now)) }
 {
-    let mut made = made_of(alloc, place, line[0].transform, part)?;
+    let mut made = made_of(alloc, place, line[0], part)?;
     for k in 1..line.len() {
-        made.go_on(alloc, place + k, line[k].transform)?;
+        made.go_on(alloc, place + k, line[k])?;
     }
     Ok(made)
 }
