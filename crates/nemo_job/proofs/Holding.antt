@@ -9,7 +9,6 @@ use Rattle.nemo_job.specs.ByPlace.{ByPlace, Placed}
 use Rattle.nemo_job.specs.Held.{Feeds, IsGiven, IsHeld, IsLast, IsLower, IsReleased, known, known_value, node_of}
 use Rattle.nemo_job.specs.declared.held.Held.{Held}
 use Rattle.nemo_job.specs.declared.copies.Node.{Node}
-use Rattle.nemo_job.proofs.Feeding.{some_one}
 use Rattle.nemo_job.proofs.Values.{same_on}
 
 -- nothing is held at first

@@ -1,5 +1,5 @@
 -- What the vertices of a line give, one after another.
-use Rattle.std.proofs.Common.{◌≡◌, ◌∙◌, refl, sym, ap, subst, ℕ, zero, suc, ◌+◌, ◌<◌, List, [], ◌∷◌, ◌++◌, length, map, get_or, true, Option, Some, None, arith, append-nil}
+use Rattle.std.proofs.Common.{◌≡◌, ◌∙◌, refl, sym, ap, subst, ℕ, suc, ◌+◌, List, [], ◌∷◌, ◌++◌, length, map, true, Some, arith, append-nil}
 use Rattle.std.specs.Prelude.{slice_get}
 use Rattle.nemo_transform.specs.ArisenOrder.{place_cmp}
 use Rattle.nemo_transform.specs.Brought.{arisen, at, port}
@@ -12,7 +12,6 @@ use Rattle.nemo_transform.specs.FirstFault.{first_fault, lesser_by}
 use Rattle.nemo_transform.specs.Through.{all_through, through}
 use Rattle.nemo_transform.specs.RowByRow.{goes_by_row}
 use Rattle.nemo_transform.proofs.FirstFaults.{first_fault_both}
-use Rattle.nemo_transform.proofs.PartsThrough.{GoByRow}
 use Rattle.nemo_job.specs.ByPlace.{ByPlace, Placed, values}
 use Rattle.nemo_job.specs.Held.{IsLower, known_value, node_of, transform_of}
 use Rattle.nemo_job.specs.declared.copies.Node.{Node}

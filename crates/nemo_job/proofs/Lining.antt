@@ -1,14 +1,14 @@
 -- The copies of a line, and what is held of them.
-use Rattle.std.proofs.Common.{◌≡◌, ◌∙◌, refl, sym, ap, subst, ℕ, zero, suc, ◌+◌, ◌-◌, ◌<◌, ◌≤◌, List, [], ◌∷◌, ◌++◌, length, map, take, drop, get_or, replicate, true, Option, Some, None, inl, inr, arith, append_assoc}
+use Rattle.std.proofs.Common.{◌≡◌, ◌∙◌, sym, ap, subst, ℕ, zero, suc, ◌+◌, ◌-◌, ◌<◌, ◌≤◌, List, [], ◌∷◌, ◌++◌, length, map, take, drop, get_or, replicate, true, Option, Some, inl, inr, arith, append_assoc}
 use Rattle.std.specs.Prelude.{All, IsTrue, option_map, slice_get}
 use Rattle.std.proofs.lemmas.Bool.{cases_eq}
-use Rattle.std.proofs.lemmas.List.{get_or-drop, get_or-take, length-drop, length-map, length-replicate, length-take-le, map-append, replicate-append-replicate}
+use Rattle.std.proofs.lemmas.List.{get_or-drop, get_or-take, length-drop, length-replicate, length-take-le, map-append, replicate-append-replicate}
 use Rattle.std.proofs.lemmas.Option.{get_or_from_slice_get, slice_get-get_or, slice_get-map, slice_get_within}
 use Rattle.nemo_transform.specs.Brought.{port}
 use Rattle.nemo_transform.specs.Soundness.{is_sound}
 use Rattle.nemo_transform.specs.Through.{Batch, all_through, clean}
 use Rattle.nemo_transform.specs.RowByRow.{goes_by_row}
-use Rattle.nemo_job.specs.ByPlace.{Placed, values}
+use Rattle.nemo_job.specs.ByPlace.{values}
 use Rattle.nemo_job.specs.Held.{IsHeld, IsLast, IsPlaced, IsReleased, known, known_value, node_of, transform_of}
 use Rattle.nemo_job.specs.Lines.{IsJoined, IsLineOf, Joins}
 use Rattle.nemo_job.specs.declared.copies.Node.{Node}

@@ -1,5 +1,5 @@
 -- Copies that go row by row, one after another.
-use Rattle.std.specs.Prelude.{◌≡◌, ℕ, suc, ◌<◌, ◌≤◌, ◌-◌, List, length, map, slice_get, Option, Some, true}
+use Rattle.std.specs.Prelude.{◌≡◌, ℕ, ◌<◌, ◌≤◌, ◌-◌, List, length, map, slice_get, Option, Some, true}
 use Rattle.nemo_transform.specs.RowByRow.{goes_by_row}
 use Rattle.nemo_job.specs.Held.{node_of}
 use Rattle.nemo_job.specs.ByPlace.{Placed}

@@ -5,7 +5,7 @@ use Rattle.nemo_transform.specs.Gives.{is_filled}
 use Rattle.nemo_transform.specs.Ports.{kinds_of}
 use Rattle.nemo_transform.specs.FirstFault.{first_fault, arisen_at}
 use Rattle.nemo_job.specs.HeldRows.{rows_held}
-use Rattle.nemo_job.specs.Held.{Feeds, known, node_of}
+use Rattle.nemo_job.specs.Held.{known, node_of}
 use Rattle.nemo_job.proofs.Feeding.{fed_through}
 use Rattle.nemo_job.proofs.Giving.{given_free}
 use Rattle.nemo_job.proofs.held.given_at.Goals as goal

@@ -1,4 +1,4 @@
-use Rattle.std.proofs.Common.{◌++◌, ◌∷◌, [], ◌∙◌, ap, sym, length, arith}
+use Rattle.std.proofs.Common.{◌∙◌, ap, sym, length, arith}
 use Rattle.nemo_transform.specs.Gives.{is_filled}
 use Rattle.nemo_transform.proofs.JoinSteps.{exceeds, faults_kept, filled, fits, rows_kept, rows_passed, width}
 use Rattle.nemo_transform.proofs.joining.push_pairs.Goals.{then-fields-le-MAX_FIELDS+in_ok-push_pair, else-fields-le-MAX_FIELDS}
