@@ -144,7 +144,7 @@ fn expr_of(alloc: Global, row: &Value) -> Result<Expr, NoMemory> {
 fn eval_of(alloc: Global, row: &Value) -> Result<Vec<u8>, NoMemory> {
     let expr = expr_of(alloc, row)?;
     let rec = record_with(alloc, 0)?;
-    answer(alloc, eval(alloc, &expr, rec.fields()))
+    answer(alloc, eval(alloc, &expr, &rec))
 }
 
 /// An answer: a number, how many bytes a text has, or the kind of a fault.

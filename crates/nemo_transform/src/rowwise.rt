@@ -12,7 +12,7 @@ ghost use Rattle.nemo_transform.specs.Soundness.{is_few, is_sound};
 use crate::applying::Given;
 use crate::fault::Fault;
 use crate::transform::{Output, Transform};
-use nemo_value::{EvalFault, Expr, Field, Kind, NoMemory, Row, Table, Text, eval};
+use nemo_value::{EvalFault, Expr, Field, Kind, NoMemory, Row, Table, Text, value_of};
 use std::alloc::Global;
 
 /// What a transform that goes row by row gives: of each row its rows, or its first fault.
@@ -111,7 +111,7 @@ fn make_row(
 fn value_on(alloc: Global, expr: &Expr, row: &Row<'_>) -> Result<Field, EvalFault>
     ensures { Gives result (val expr.now row.now) }
 {
-    eval(alloc, expr, row.fields())
+    value_of(alloc, expr, row.fields())
 }
 
 /// Whether a test isn't 0 on a row, or its fault.

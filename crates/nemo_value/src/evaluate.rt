@@ -10,6 +10,7 @@ ghost use Rattle.nemo_value.specs.Val as spec;
 use crate::expr::{Expr, Kind, Oper};
 use crate::field::Field;
 use crate::memory::NoMemory;
+use crate::record::Record;
 use crate::try_copy::TryCopy;
 use std::alloc::{AllocFailed, Global};
 use std::borrow::Cow;
@@ -46,9 +47,16 @@ impl<T: Drop> From<AllocFailed<T>> for EvalFault {
     }
 }
 
-/// The value of an expression on a record's fields, or its first fault. Operands are evaluated from left to right, and
-/// of a choice only the chosen one. Numbers are exact: `Overflow` comes only where the result doesn't fit 64 bits.
-pub fn eval(alloc: Global, expr: &Expr, row: &[Field]) -> Result<Field, EvalFault>
+/// The value of an expression on a record, or its first fault. Operands are evaluated from left to right, and of a
+/// choice only the chosen one. Numbers are exact: `Overflow` comes only where the result doesn't fit 64 bits.
+pub fn eval(alloc: Global, expr: &Expr, record: &Record) -> Result<Field, EvalFault>
+    ensures { Gives result (val expr.now record.now) }
+{
+    value_of(alloc, expr, record.fields().as_slice())
+}
+
+/// The same on the fields of a row.
+pub fn value_of(alloc: Global, expr: &Expr, row: &[Field]) -> Result<Field, EvalFault>
     ensures { Gives result (val expr.now row.now) }
 {
     if let Some(n) = number_of(expr, row) {

@@ -18,7 +18,7 @@ mod text;
 mod try_copy;
 
 pub use bucket::bucket_of;
-pub use evaluate::{EvalFault, eval};
+pub use evaluate::{EvalFault, eval, value_of};
 pub use expr::{Expr, Kind, Oper};
 pub use field::Field;
 pub use list::List;
