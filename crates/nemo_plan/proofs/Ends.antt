@@ -12,7 +12,7 @@ use Rattle.nemo_ir.proofs.Places.{all_at-at, from_none, got}
 use Rattle.nemo_plan.proofs.Lists.{list_any-none}
 use Rattle.nemo_ir.proofs.Lines.{line_inputs}
 
-is_no : (b : Bool) → not b ≡ true → b ≡ false
+pub is_no : (b : Bool) → not b ≡ true → b ≡ false
 is_no true h = cc
 is_no false h = refl
 
@@ -40,7 +40,7 @@ last_alone flat line v l = list_any-none (λ y. list_any (λ input. input == v) 
     other : (i : ℕ) (y : FlatVertex) → slice_get flat.vertices i ≡ Some y → list_any (λ input. input == v) y.inputs ≡ false
     other i y e = ap (list_any (λ input. input == v)) (line_inputs flat line i y e) ∙ before i (slice_get_within flat.vertices i y e)
 
-or_other : (a b : Bool) → b ≡ false → (a || b) ≡ true → a ≡ true
+pub or_other : (a b : Bool) → b ≡ false → (a || b) ≡ true → a ≡ true
 or_other true b e h = refl
 or_other false b e h = sym e ∙ h
 

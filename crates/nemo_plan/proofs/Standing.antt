@@ -213,7 +213,7 @@ shorter : (rs : List ℕ) (n j s : ℕ) → n ≤ j → slice_get rs j ≡ Some 
 shorter rs n j s l g = let within : j < length rs = slice_get_within rs j s g in got rs n (omega arith)
 
 -- `rep` has no more entries than there are flat vertices
-rep_few : (flat : FlatForm) (dag : IrDag) → Valid flat dag → (i r : ℕ) → slice_get dag.rep i ≡ Some r → i < length flat.vertices
+pub rep_few : (flat : FlatForm) (dag : IrDag) → Valid flat dag → (i r : ℕ) → slice_get dag.rep i ≡ Some r → i < length flat.vertices
 rep_few flat dag v i r e = elim (cases_lt i (length flat.vertices)) [ inl l ↦ l | inr l ↦ absurd (past l) ]
   where
     past : length flat.vertices ≤ i → ⊥

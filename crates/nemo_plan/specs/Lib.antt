@@ -1,6 +1,11 @@
+pub mod Cut
 pub mod Form
 pub mod Graph
 pub mod Kept
 pub mod Line
 pub mod LinePlan
+pub mod Over
+pub mod Rank
+pub mod Reach
 pub mod Stages
+pub mod Wiring

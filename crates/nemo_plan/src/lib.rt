@@ -1,7 +1,9 @@
 //! Plans: the stages that a DAG is cut into, and the graph of their tasks.
 #![tactic(auto)]
 
+mod law;
 mod line;
 mod plan;
 
+pub use law::{graph_law, over_law, rank_law, reach_law, stages_law};
 pub use plan::Plan;
