@@ -1,5 +1,6 @@
 pub mod Cuts
 pub mod LeastCuts
+pub mod NeedLaw
 pub mod Needed
 pub mod Numbered
 pub mod Places

@@ -52,12 +52,12 @@ each_same f g k (x ∷ xs) same = ap (λ y. y ∷ map_at f (k + 1) xs) (same k x
 
 ---- rows
 
-row_there : {X : Type 0} (rows : List (List X)) (a b : ℕ) (x : X) → item_at rows a b ≡ Some x → slice_get rows a ≡ Some (row_at rows a)
+pub row_there : {X : Type 0} (rows : List (List X)) (a b : ℕ) (x : X) → item_at rows a b ≡ Some x → slice_get rows a ≡ Some (row_at rows a)
 row_there [] a b x is = cc
 row_there (r ∷ rows) zero b x is = refl
 row_there (r ∷ rows) (suc a) b x is = row_there rows a b x is
 
-row_is : {X : Type 0} (rows : List (List X)) (a : ℕ) (r : List X) → slice_get rows a ≡ Some r → row_at rows a ≡ r
+pub row_is : {X : Type 0} (rows : List (List X)) (a : ℕ) (r : List X) → slice_get rows a ≡ Some r → row_at rows a ≡ r
 row_is [] a r is = cc
 row_is (q ∷ rows) zero r is = cc
 row_is (q ∷ rows) (suc a) r is = row_is rows a r is

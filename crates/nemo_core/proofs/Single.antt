@@ -5,64 +5,14 @@ use Rattle.std.proofs.lemmas.List.{length-map, length-replicate, length-set}
 use Rattle.std.specs.Prelude.{slice_set}
 use Rattle.std.specs.Cmp.{first_so, second_so}
 use Rattle.std.specs.Prelude.{◌&&◌, ◌==◌}
-use Rattle.nemo_base.specs.Places.{item_at, map_at, map_rows, passes, row_at}
+use Rattle.nemo_base.specs.Places.{item_at, map_at, map_rows, passes}
 use Rattle.nemo_base.specs.declared.graph.StageRow.{StageRow}
 use Rattle.nemo_base.specs.declared.id.TaskId.{TaskId}
 use Rattle.nemo_core.specs.State.{fresh_task, fresh_tasks, runs}
 use Rattle.nemo_core.specs.Step.{ended, idle, launched}
 use Rattle.nemo_core.specs.Within.{AreSingle, IsWithin, RunsOnly, runs_at}
 use Rattle.nemo_core.specs.declared.row.TaskRow.{TaskRow}
-
----- changed rows
-
--- an item is made of the one that was there
-record Was {X Y : Type 0} (make : X → Y) (found : Option X) (y : Y) : Type 0 where
-  item : X
-  there : found ≡ Some item
-  is : y ≡ make item
-
-next : (k i : ℕ) → (k + 1) + i ≡ k + suc i
-next k i = omega arith
-
-none : (k : ℕ) → k ≡ k + 0
-none k = omega arith
-
-from_none : (k : ℕ) → 0 + k ≡ k
-from_none k = omega arith
-
-same_item : {X Y : Type 0} (f : X → Y) (x : X) (y : Y) → Some (f x) ≡ Some y → f x ≡ y
-same_item f x y e = cc
-
-map_back : {X Y : Type 0} (make : X → Y) (xs : List X) (i : ℕ) (y : Y) → slice_get (map make xs) i ≡ Some y → Was make (slice_get xs i) y
-map_back make [] i y e = cc
-map_back make (x ∷ xs) zero y e = record { item = x; there = refl; is = sym (same_item make x y e) }
-map_back make (x ∷ xs) (suc i) y e = map_back make xs i y e
-
-map_at_back : {X Y : Type 0} (make : ℕ → X → Y) (k : ℕ) (xs : List X) (i : ℕ) (y : Y) → slice_get (map_at make k xs) i ≡ Some y → Was (make (k + i)) (slice_get xs i) y
-map_at_back make k [] i y e = cc
-map_at_back make k (x ∷ xs) zero y e = record { item = x; there = refl; is = sym (same_item (make k) x y e) ∙ ap (λ n. make n x) (none k) }
-map_at_back make k (x ∷ xs) (suc i) y e =
-    let w = map_at_back make (k + 1) xs i y e in
-    record { item = w.item; there = w.there; is = w.is ∙ ap (λ n. make n w.item) (next k i) }
-
-row_map : {X Y : Type 0} (make : List X → List Y) (rows : List (List X)) (a : ℕ) → make [] ≡ [] → row_at (map make rows) a ≡ make (row_at rows a)
-row_map make [] a empty = sym empty
-row_map make (r ∷ rows) zero empty = refl
-row_map make (r ∷ rows) (suc a) empty = row_map make rows a empty
-
-row_map_at : {X Y : Type 0} (make : ℕ → List X → List Y) (k : ℕ) (rows : List (List X)) (a : ℕ) → ((n : ℕ) → make n [] ≡ []) → row_at (map_at make k rows) a ≡ make (k + a) (row_at rows a)
-row_map_at make k [] a empty = sym (empty (k + a))
-row_map_at make k (r ∷ rows) zero empty = ap (λ n. make n r) (none k)
-row_map_at make k (r ∷ rows) (suc a) empty = row_map_at make (k + 1) rows a empty ∙ ap (λ n. make n (row_at rows a)) (next k a)
-
-item_each : {X Y : Type 0} (make : X → Y) (rows : List (List X)) (a b : ℕ) (y : Y) → item_at (map (map make) rows) a b ≡ Some y → Was make (item_at rows a b) y
-item_each make rows a b y e = map_back make (row_at rows a) b y (sym (ap (λ r. slice_get r b) (row_map (map make) rows a refl)) ∙ e)
-
-item_rows : {X Y : Type 0} (make : ℕ → ℕ → X → Y) (rows : List (List X)) (a b : ℕ) (y : Y) → item_at (map_rows make rows) a b ≡ Some y → Was (make a b) (item_at rows a b) y
-item_rows make rows a b y e =
-    let row = row_map_at (λ n. map_at (make n) 0) 0 rows a (λ n. refl) ∙ ap (λ n. map_at (make n) 0 (row_at rows a)) (from_none a) in
-    let w = map_at_back (make a) 0 (row_at rows a) b y (sym (ap (λ r. slice_get r b) row) ∙ e) in
-    record { item = w.item; there = w.there; is = w.is ∙ ap (λ n. make a n w.item) (from_none b) }
+use Rattle.nemo_core.proofs.Changed.{item_each, item_rows, length_map_at}
 
 ---- who runs
 
@@ -178,10 +128,6 @@ single_fresh stages n = record {
 pub runs_only : (tasks : List (List TaskRow)) (n attempt s i : ℕ) → AreSingle tasks n → runs_at tasks attempt s i ≡ true → RunsOnly tasks attempt s i
 runs_only tasks n attempt s i single h = record { runs = h; only = λ t j g. single.one attempt t j s i g h }
 
-pub map_at-length : {X Y : Type 0} (make : ℕ → X → Y) (k : ℕ) (xs : List X) → length (map_at make k xs) ≡ length xs
-map_at-length make k [] = refl
-map_at-length make k (x ∷ xs) = ap suc (map_at-length make (k + 1) xs)
-
 ---- what a core keeps
 
 pub within_launched : (taken launches commits stages attempt : ℕ) (t : TaskId) (slot : ℕ) (tasks new : List (List TaskRow)) (sealed : List Bool)
@@ -193,7 +139,7 @@ within_launched taken launches commits stages attempt t slot tasks new sealed ke
       commits_within = omega (arith, kept.commits_within);
       numbered = kept.numbered;
       single = subst (λ rows. AreSingle rows (launches + 1)) (sym made) (single_launched tasks launches t slot kept.single);
-      seals = kept.seals ∙ sym (map_at-length (λ a. map_at (launched launches t slot a) 0) 0 tasks) ∙ ap length (sym made);
+      seals = kept.seals ∙ sym (length_map_at (λ a. map_at (launched launches t slot a) 0) 0 tasks) ∙ ap length (sym made);
     }
 
 pub within_ended : (taken launches commits stages attempt s : ℕ) (tasks new : List (List TaskRow)) (sealed : List Bool)

@@ -1,4 +1,6 @@
 pub mod Cell
+pub mod Kept
+pub mod Laws
 pub mod Needed
 pub mod Numbered
 pub mod Reading

@@ -5,6 +5,7 @@ mod block;
 mod event;
 mod grid;
 mod launching;
+mod law;
 mod machine;
 mod needed;
 mod reading;
@@ -13,5 +14,6 @@ mod row;
 mod task;
 
 pub use event::{Event, HeldBy, LaunchRefused, Outcome, RunningAt};
+pub use law::{progress_law, ready_law, states_law, staying_law};
 pub use machine::Core;
 pub use row::{Attempt, CutsRow, TaskRow};
