@@ -49,10 +49,10 @@ impl<T: Drop> From<AllocFailed<T>> for EvalFault {
 
 /// The value of an expression on a record, or its first fault. Operands are evaluated from left to right, and of a
 /// choice only the chosen one. Numbers are exact: `Overflow` comes only where the result doesn't fit 64 bits.
-pub fn eval(alloc: Global, expr: &Expr, record: &Record) -> Result<Field, EvalFault>
-    ensures { Gives result (val expr.now record.now) }
+pub fn eval(alloc: Global, expr: &Expr, row: &Record) -> Result<Field, EvalFault>
+    ensures { Gives result (val expr.now row.now) }
 {
-    value_of(alloc, expr, record.fields().as_slice())
+    value_of(alloc, expr, row.fields().as_slice())
 }
 
 /// The same on the fields of a row.
