@@ -1,8 +1,9 @@
 -- Which logs are made of holds: what one call of the master adds to a log.
-use Rattle.std.specs.Prelude.{◌≡◌, ◌⊎◌, ◌<◌, ℕ, ◌==◌, ◌&&◌, not, Bool, true, false, List, [], ◌∷◌, ◌++◌, length, filter, slice_get, is_none, Option, Some, None, if◌then◌else◌}
+use Rattle.std.specs.Prelude.{◌≡◌, ◌⊎◌, ◌<◌, ℕ, ◌==◌, ◌&&◌, not, Bool, true, false, List, [], ◌∷◌, ◌++◌, length, filter, map, slice_get, is_none, Option, Some, None, if◌then◌else◌}
 use Rattle.std.specs.List.{flat_map, list_all}
-use Rattle.nemo_base.specs.Places.{passes}
+use Rattle.nemo_base.specs.Places.{map_at, passes}
 use Rattle.nemo_base.specs.declared.graph.TaskGraph.{TaskGraph}
+use Rattle.nemo_base.specs.declared.id.BlockId.{BlockId}
 use Rattle.nemo_base.specs.declared.id.TaskId.{TaskId}
 use Rattle.nemo_base.specs.declared.script.Action.{Action}
 use Rattle.nemo_base.specs.declared.script.Action.TheVariants.{Evict as EvictLine, Repartition as RepartitionLine}
@@ -12,16 +13,13 @@ use Rattle.nemo_value.specs.declared.expr.Kind.{Kind}
 use Rattle.nemo_transform.specs.Gives.{Row}
 use Rattle.nemo_ir.specs.Along.{below}
 use Rattle.nemo_core.specs.declared.event.Event.{Event}
-use Rattle.nemo_core.specs.declared.event.Event.TheVariants.{Launch, Commit, GiveBack, Evict, Repartition, Ignored, Decide, Fault, Spent, Starved, Finish}
+use Rattle.nemo_core.specs.declared.event.Event.TheVariants.{Launch, Commit, GiveBack, Evict, Repartition, Ignored, Decide, Fault, Spent, Starved, Drop, Finish}
 use Rattle.nemo_core.specs.declared.event.HeldBy.{HeldBy}
 use Rattle.nemo_core.specs.Reading.{first_task, launch_of, launchable}
 use Rattle.nemo_core.specs.Run.{run_on}
 use Rattle.nemo_core.specs.State.{State, Machine, blocks_read, start}
 use Rattle.nemo_core.specs.Step.{after, is_decided, is_going, is_skewed, refusal, vertex_held}
-
--- the state that a log leaves
-abbrev pub state_of : TaskGraph → SettingsForm → List Event → State
-state_of g k log = run_on g k (start g k) log
+use Rattle.nemo_laws.specs.Data.{state_of}
 
 ---- the script
 
@@ -84,12 +82,29 @@ pub record IsLaunchHold (g : TaskGraph) (k : SettingsForm) (s : State) (es : Lis
 abbrev pub finish_of : TaskGraph → SettingsForm → State → List Event
 finish_of g k s = if is_none (refusal g k s Finish) then Finish ∷ [] else []
 
--- a commit, the script lines that are due then, and Finish exactly where every sink block is held. Nothing is dropped yet.
+-- block i of vertex v
+abbrev pub block : ℕ → ℕ → BlockId
+block v i = record { vertex = v; task = i }
+
+-- every block, in order of vertex and task
+abbrev pub blocks_in : State → List BlockId
+blocks_in s = flat_map (λ row. row) (map_at (λ v row. map_at (λ i held. block v i) 0 row) 0 s.blocks)
+
+abbrev pub may_drop : TaskGraph → SettingsForm → State → BlockId → Bool
+may_drop g k s b = is_none (refusal g k s (Drop b))
+
+-- a drop of each block that may be dropped
+abbrev pub drops : TaskGraph → SettingsForm → State → List Event
+drops g k s = map Drop (filter (may_drop g k s) (blocks_in s))
+
+-- a commit; the script lines that are due then; every drop that is allowed; and Finish exactly where every sink block is held
 abbrev pub commit_hold : TaskGraph → SettingsForm → List ScriptLine → State → ℕ → List Event
 commit_hold g k script s a =
     let t = after g k s (Commit a) in
     let lines = fired g k t.commits script t in
-    Commit a ∷ (lines ++ finish_of g k (run_on g k t lines))
+    let u = run_on g k t lines in
+    let dropped = drops g k u in
+    Commit a ∷ (lines ++ (dropped ++ finish_of g k (run_on g k u dropped)))
 
 ---- a lost read
 
@@ -114,23 +129,13 @@ lost_read g s n = not (are_held_by (blocks_read g s n.task) n.reads)
 
 ---- holds
 
--- what one hold adds to the log so far
-abbrev pub IsHold : TaskGraph → SettingsForm → List ScriptLine → List Event → List Event → Type 0
-IsHold g k script log es =
-    let s = state_of g k log in
-    ((t : TaskId) × (least_spent g k s ≡ Some t) × (es ≡ Spent t ∷ []))
-    ⊎ (IsLaunchHold g k s es
-    ⊎ (((a : ℕ) × (es ≡ commit_hold g k script s a))
-    ⊎ (((a : ℕ) × (passes (lost_read g s) (named_by a log) ≡ true) × (es ≡ GiveBack a ∷ []))
-    ⊎ (((a : ℕ) × (v : ℕ) × (kind : Kind) × (rec : Row) × (es ≡ Fault a v kind rec ∷ []))
-    ⊎ (es ≡ Starved ∷ [])))))
-
-abbrev pub AreHolds : TaskGraph → SettingsForm → List ScriptLine → List Event → List (List Event) → Type 0
-AreHolds g k script log [] = Unit {0}
-AreHolds g k script log (es ∷ holds) = IsHold g k script log es × AreHolds g k script (log ++ es) holds
-
--- the log begins with the lines that are due before any commit, and goes on hold by hold
-abbrev pub Holds : TaskGraph → SettingsForm → List ScriptLine → List Event → Type 0
-Holds g k script log =
-    let first = fired g k 0 script (start g k) in
-    (holds : List (List Event)) × (log ≡ first ++ flat_map (λ es. es) holds) × AreHolds g k script first holds
+-- a log that begins with the lines that are due before any commit, and goes on hold by hold
+pub data Holds (g : TaskGraph) (k : SettingsForm) (script : List ScriptLine) : List Event → Type 0 where
+  begins : Holds g k script (fired g k 0 script (start g k))
+  spends : (log : List Event) (t : TaskId) → Holds g k script log → least_spent g k (state_of g k log) ≡ Some t → Holds g k script (log ++ Spent t ∷ [])
+  launches : (log es : List Event) → Holds g k script log → IsLaunchHold g k (state_of g k log) es → Holds g k script (log ++ es)
+  commits : (log : List Event) (a : ℕ) → Holds g k script log → Holds g k script (log ++ commit_hold g k script (state_of g k log) a)
+  gives_back : (log : List Event) (a : ℕ) → Holds g k script log → passes (lost_read g (state_of g k log)) (named_by a log) ≡ true
+      → Holds g k script (log ++ GiveBack a ∷ [])
+  faults : (log : List Event) (a v : ℕ) (kind : Kind) (rec : Row) → Holds g k script log → Holds g k script (log ++ Fault a v kind rec ∷ [])
+  starves : (log : List Event) → Holds g k script log → Holds g k script (log ++ Starved ∷ [])

@@ -1,5 +1,5 @@
 -- Which logs are legal: each event is a step, and what it says of the data is true.
-use Rattle.std.specs.Prelude.{◌≡◌, ℕ, List, [], ◌∷◌, length, map, slice_get, slice_index_or, Option, Some, None}
+use Rattle.std.specs.Prelude.{◌≡◌, ℕ, List, [], ◌∷◌, length, map, slice_get, Option, Some, None}
 use Rattle.std.specs.List.{flat_map}
 use Rattle.std.specs.Ordering.{ordering_then}
 use Rattle.std.specs.declared.cmp.Ordering.{Ordering}
@@ -19,13 +19,10 @@ use Rattle.nemo_core.specs.Step.{after, refusal}
 use Rattle.nemo_core.specs.declared.event.Event.{Event}
 use Rattle.nemo_core.specs.declared.event.Event.TheVariants.{Commit, Decide, Fault}
 use Rattle.nemo_plan.specs.Form.{PlanForm, graph}
-use Rattle.nemo_laws.specs.Data.{Given, gives_nothing, with_attempt}
+use Rattle.nemo_laws.specs.Data.{Given, Ran, given_by, with_attempt}
 
 abbrev pub all_vertices : PlanForm → List ℕ
 all_vertices p = below (length p.dag.vertices)
-
-abbrev pub given_by : List Given → ℕ → Given
-given_by given a = slice_index_or given a gives_nothing
 
 -- an attempt has no fault
 abbrev pub Faultless : PlanForm → Given → Type 0
@@ -42,8 +39,8 @@ pub record FirstFault (p : PlanForm) (gives : Given) (fault : Arisen ℕ) : Type
   pub named : fault.vertex ≡ origin p.dag vertex
 
 -- the sample of a Trigger's blocks, as they are held
-abbrev pub trigger_sample : SettingsForm → State → List Given → ℕ → ℕ → List Row
-trigger_sample k s given u tasks = flat_map (λ j. sampled k.sample 0 (given_by given (holder (held_at s u j)) u).rows) (below tasks)
+abbrev pub trigger_sample : SettingsForm → State → List Ran → ℕ → ℕ → List Row
+trigger_sample k s ran u tasks = flat_map (λ j. sampled k.sample 0 (given_by ran (holder (held_at s u j)) u).rows) (below tasks)
 
 abbrev pub row_tasks : Option VertexRow → ℕ
 row_tasks (Some row) = row.parallelism
@@ -57,19 +54,19 @@ abbrev pub row_of : PlanForm → ℕ → Option VertexRow
 row_of p v = slice_get (graph p).vertices v
 
 -- over each Trigger in-edge of a vertex
-abbrev pub sample : PlanForm → SettingsForm → State → List Given → ℕ → List Row
-sample p k s given v = flat_map (λ u. trigger_sample k s given u (row_tasks (row_of p u))) (row_triggers (row_of p v))
+abbrev pub sample : PlanForm → SettingsForm → State → List Ran → ℕ → List Row
+sample p k s ran v = flat_map (λ u. trigger_sample k s ran u (row_tasks (row_of p u))) (row_triggers (row_of p v))
 
 -- what an event says of the data is true
-abbrev pub IsHonest : PlanForm → SettingsForm → State → List Given → Event → Type 0
-IsHonest p k s given (Commit a) = Faultless p (given_by given a)
-IsHonest p k s given (Fault a x kind rec) = FirstFault p (given_by given a) (record { vertex = x; kind = kind; rec = rec })
-IsHonest p k s given (Decide v cuts) = IsLeastCuts (counts_of (sample p k s given v)) (row_tasks (row_of p v)) cuts
-IsHonest p k s given _ = Unit {0}
+abbrev pub IsHonest : PlanForm → SettingsForm → State → List Ran → Event → Type 0
+IsHonest p k s ran (Commit a) = Faultless p (given_by ran a)
+IsHonest p k s ran (Fault a x kind rec) = FirstFault p (given_by ran a) (record { vertex = x; kind = kind; rec = rec })
+IsHonest p k s ran (Decide v cuts) = IsLeastCuts (counts_of (sample p k s ran v)) (row_tasks (row_of p v)) cuts
+IsHonest p k s ran _ = Unit {0}
 
-abbrev pub LegalFrom : PlanForm → SettingsForm → State → List Given → List Event → Type 0
-LegalFrom p k s given [] = Unit {0}
-LegalFrom p k s given (e ∷ es) = (refusal (graph p) k s e ≡ None) × IsHonest p k s given e × LegalFrom p k (after (graph p) k s e) (with_attempt p s given e) es
+abbrev pub LegalFrom : PlanForm → SettingsForm → State → List Ran → List Event → Type 0
+LegalFrom p k s ran [] = Unit {0}
+LegalFrom p k s ran (e ∷ es) = (refusal (graph p) k s e ≡ None) × IsHonest p k s ran e × LegalFrom p k (after (graph p) k s e) (with_attempt p s ran e) es
 
 -- a legal history of a plan
 abbrev pub Legal : PlanForm → SettingsForm → List Event → Type 0

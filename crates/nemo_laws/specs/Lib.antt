@@ -1,9 +1,8 @@
 pub mod Data
 pub mod Done
+pub mod History
 pub mod Holds
 pub mod Legal
 pub mod Losses
-pub mod Parts
-pub mod Ready
-pub mod Solo
+pub mod Recomputation
 pub mod Written

@@ -16,9 +16,7 @@ use Rattle.nemo_core.specs.declared.event.Event.{Event}
 use Rattle.nemo_core.specs.declared.event.Event.TheVariants.{Commit}
 use Rattle.nemo_plan.specs.Form.{PlanForm, graph}
 use Rattle.nemo_plan.specs.Graph.{vertex_transform}
-use Rattle.nemo_laws.specs.Data.{data_of}
-use Rattle.nemo_laws.specs.Holds.{state_of}
-use Rattle.nemo_laws.specs.Legal.{given_by}
+use Rattle.nemo_laws.specs.Data.{data_of, state_of}
 
 ---- where a block comes from
 
@@ -59,7 +57,7 @@ FromCommits p k log =
 
 -- the rows of a block: what the attempt that holds it gave
 abbrev pub block_rows : PlanForm → SettingsForm → List Event → ℕ → ℕ → List Row
-block_rows p k log v i = (given_by (data_of p k log) (holder (held_at (state_of (graph p) k log) v i)) v).rows
+block_rows p k log v i = (data_of p k log (holder (held_at (state_of (graph p) k log) v i)) v).rows
 
 -- a sink with the rows of its blocks
 abbrev pub sink_written : PlanForm → SettingsForm → List Event → ℕ → IrVertex → Option SinkRows

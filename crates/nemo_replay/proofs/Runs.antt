@@ -24,15 +24,15 @@ use Rattle.nemo_core.specs.declared.event.Event.TheVariants.{Finish}
 use Rattle.nemo_plan.specs.Form.{PlanForm, graph}
 use Rattle.nemo_plan.specs.Line.{line_graph}
 use Rattle.nemo_laws.specs.Done.{IsDoneRun}
-use Rattle.nemo_laws.specs.Solo.{IsOneStage, solo_log, task_rows, tasks_in}
+use Rattle.nemo_replay.specs.StageRun.{IsOneStage, solo_log, task_rows, tasks_in}
 use Rattle.nemo_laws.specs.Written.{written}
-use Rattle.nemo_laws.proofs.Commits.{finish_allowed}
-use Rattle.nemo_laws.proofs.Computed.{ran_rows}
-use Rattle.nemo_laws.proofs.OneStage.{count, rows_end, stage_plan}
-use Rattle.nemo_laws.proofs.SinkRows.{end_of, one_reached}
-use Rattle.nemo_laws.proofs.SoloRuns.{solo_runs}
-use Rattle.nemo_laws.proofs.States.{start_ready}
-use Rattle.nemo_laws.proofs.Tasks.{ran}
+use Rattle.nemo_replay.proofs.Commits.{finish_allowed}
+use Rattle.nemo_replay.proofs.Computed.{task_rows_are}
+use Rattle.nemo_replay.proofs.OneStage.{count, rows_end, stage_plan}
+use Rattle.nemo_replay.proofs.SinkRows.{end_of, one_reached}
+use Rattle.nemo_replay.proofs.SoloRuns.{RunsWell, solo_runs}
+use Rattle.nemo_replay.proofs.States.{start_ready}
+use Rattle.nemo_replay.proofs.Tasks.{line_part}
 use Rattle.nemo_replay.specs.Ready.{end_name, one_sink, ready_core}
 use Rattle.nemo_replay.proofs.Turns.{core_is}
 
@@ -47,7 +47,7 @@ may_finish p k core solo is = ap (λ c. refusal_in c Finish) (is ∙ core_is p k
 
 ---- the sink
 
-pub end_is : (p : PlanForm) (o : IsOneStage p) → end_name p.flat ≡ Some (end_of p o).name
+end_is : (p : PlanForm) (o : IsOneStage p) → end_name p.flat ≡ Some (end_of p o).name
 end_is p o =
     let size : length p.flat.vertices ≡ count p = (stage_plan p o).flat_count in
     let some : 1 ≤ count p = (stage_plan p o).some in
@@ -59,7 +59,7 @@ pub has_end : (p : PlanForm) (o : IsOneStage p) → IsSome (end_name p.flat)
 has_end p o = ap is_some (end_is p o)
 
 -- the rows of all tasks, in order, are what the sink gets
-pub sinks_are : (p : PlanForm) (rows : List Row) (sinks : List SinkRows) → IsOneStage p
+sinks_are : (p : PlanForm) (rows : List Row) (sinks : List SinkRows) → IsOneStage p
     → rows ≡ flat_map (λ i. task_rows p.flat (tasks_in p) i p.flat.vertices []) (below (tasks_in p)) → Some sinks ≡ one_sink p.flat rows → sinks ≡ flat_rows p.flat
 sinks_are p rows sinks o all one =
     let some : 1 ≤ count p = (stage_plan p o).some in
@@ -68,18 +68,14 @@ sinks_are p rows sinks o all one =
     let sort : List Row → List SinkRows = λ rs. record { name = name; rows = sorted record_cmp rs } ∷ [] in
     let at_end : suc last ≡ count p = omega arith in
     same_item sinks (sort rows) (one ∙ ap (option_map (λ n. record { name = n; rows = sorted record_cmp rows } ∷ [])) (end_is p o))
-    ∙ ap sort (all ∙ flat_same (λ i. task_rows p.flat (tasks_in p) i p.flat.vertices []) (λ i. (ran p (tasks_in p) i last).rows) (below (tasks_in p)) (λ i. rows_end p o (tasks_in p) i last at_end))
-    ∙ ap (λ rs. record { name = name; rows = rs } ∷ []) (sorted_alike record_cmp record_strict (from_std _ _ (ran_rows p o last (omega arith))))
+    ∙ ap sort (all ∙ flat_same (λ i. task_rows p.flat (tasks_in p) i p.flat.vertices []) (λ i. (line_part p (tasks_in p) i last).rows) (below (tasks_in p)) (λ i. rows_end p o (tasks_in p) i last at_end))
+    ∙ ap (λ rs. record { name = name; rows = rs } ∷ []) (sorted_alike record_cmp record_strict (from_std _ _ (task_rows_are p o last (omega arith))))
     ∙ sym (ap (λ rs. in_order (map (λ r. record { name = r.name; rows = r.brought.rows }) rs)) (one_reached p o))
 
 ---- the law of the run
 
-pub record RunsWell (p : PlanForm) (k : SettingsForm) (log : List Event) : Type 0 where
-  pub done : IsDoneRun p k [] log
-  pub sinks : written p k log ≡ flat_rows p.flat
-
 pub runs_well : (p : PlanForm) (k : SettingsForm) (log : List Event) → IsOneStage p → AreInRange k → flat_faults p.flat ≡ [] → log ≡ solo_log k (tasks_in p) → RunsWell p k log
-runs_well p k log o range clean is = let law = solo_runs p k o range clean in subst (RunsWell p k) (sym is) (record { done = law.0; sinks = law.1 })
+runs_well p k log o range clean is = subst (RunsWell p k) (sym is) (solo_runs p k o range clean)
 
 -- the same of the result of a call
 pub ended_sinks : (p : PlanForm) (rows : List Row) (r : Result (List SinkRows) NoMemory) → IsOneStage p

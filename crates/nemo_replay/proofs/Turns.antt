@@ -18,14 +18,14 @@ use Rattle.nemo_core.specs.declared.event.Event.{Event}
 use Rattle.nemo_core.specs.declared.event.Event.TheVariants.{Launch, Commit}
 use Rattle.nemo_plan.specs.Form.{PlanForm}
 use Rattle.nemo_plan.specs.Line.{line_graph}
-use Rattle.nemo_laws.specs.Ready.{busy, ready}
-use Rattle.nemo_laws.specs.Solo.{IsOneStage, first_stage, slot_of, tasks_in, turn}
-use Rattle.nemo_laws.proofs.Commits.{commit_after, commit_allowed}
-use Rattle.nemo_laws.proofs.Counted.{below_suc}
-use Rattle.nemo_laws.proofs.Launches.{launch_after, launchable_next, machine_of}
-use Rattle.nemo_laws.proofs.Logs.{turns, turns_more}
-use Rattle.nemo_laws.proofs.Slots.{slot_good}
-use Rattle.nemo_laws.proofs.OneStage.{count, stage_plan}
+use Rattle.nemo_replay.specs.StageStates.{busy, ready}
+use Rattle.nemo_replay.specs.StageRun.{IsOneStage, first_stage, slot_of, tasks_in, turn}
+use Rattle.nemo_replay.proofs.Commits.{commit_after, commit_allowed}
+use Rattle.nemo_replay.proofs.Counted.{below_suc}
+use Rattle.nemo_replay.proofs.Launches.{launch_after, launchable_next, machine_of}
+use Rattle.nemo_replay.proofs.Logs.{turns, turns_more}
+use Rattle.nemo_replay.proofs.Slots.{slot_good}
+use Rattle.nemo_replay.proofs.OneStage.{count, stage_plan}
 use Rattle.nemo_replay.specs.Ready.{is_served, ready_core}
 
 -- the core while task i runs
@@ -45,7 +45,7 @@ next_launchable p k i core slot solo range lt is on =
 pub is_some_task : (o : Option TaskId) (t : TaskId) → o ≡ Some t → IsSome o
 is_some_task o t e = ap is_some e
 
-pub launched_task : (p : PlanForm) (k : SettingsForm) (i : ℕ) (core : Machine) (slot : ℕ) (task : TaskId) → IsOneStage p → AreInRange k → i < tasks_in p → core ≡ ready_core p k i → slot ≡ slot_of k i
+launched_task : (p : PlanForm) (k : SettingsForm) (i : ℕ) (core : Machine) (slot : ℕ) (task : TaskId) → IsOneStage p → AreInRange k → i < tasks_in p → core ≡ ready_core p k i → slot ≡ slot_of k i
     → launchable core slot ≡ Some task → task ≡ first_stage i
 launched_task p k i core slot task solo range lt is on got =
     same_item task (first_stage i) (sym got ∙ next_launchable p k i core slot solo range lt is on)

@@ -11,8 +11,8 @@ use Rattle.nemo_ir.specs.Flat.{FlatForm, sink_name, transform_of}
 use Rattle.nemo_ir.specs.declared.flat.FlatVertex.{FlatVertex}
 use Rattle.nemo_core.specs.State.{Machine}
 use Rattle.nemo_plan.specs.Form.{PlanForm, graph}
-use Rattle.nemo_laws.specs.Ready.{ready}
-use Rattle.nemo_laws.specs.Solo.{tasks_in}
+use Rattle.nemo_replay.specs.StageStates.{ready}
+use Rattle.nemo_replay.specs.StageRun.{tasks_in}
 
 -- the core after the commits of the tasks 0 to i - 1; each took two events
 abbrev pub ready_core : PlanForm → SettingsForm → ℕ → Machine

@@ -2,7 +2,7 @@ ghost use Rattle.std.specs.Prelude.{◌≡◌, ◌≤◌, ◌<◌, [], true, IfO
 ghost use Rattle.std.specs.List.{AllPass};
 ghost use Rattle.nemo_ir.specs.Flat.{transform_of};
 ghost use Rattle.nemo_ir.specs.Part.{dealt_to};
-ghost use Rattle.nemo_laws.specs.Solo.{rows_by, task_rows};
+ghost use Rattle.nemo_replay.specs.StageRun.{rows_by, task_rows};
 ghost use Rattle.nemo_replay.specs.Ready.{is_served};
 ghost use Rattle.nemo_transform.specs.Gives.{answers, rows_in};
 ghost use Rattle.nemo_transform.specs.Soundness.{is_sound};

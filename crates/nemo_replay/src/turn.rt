@@ -3,7 +3,7 @@ ghost use Rattle.nemo_base.specs.Settings.{AreInRange};
 ghost use Rattle.nemo_core.specs.Reading.{launch_of, launchable};
 ghost use Rattle.nemo_core.specs.Run.{refusal_in, stepped};
 ghost use Rattle.nemo_core.specs.Step.{is_built};
-ghost use Rattle.nemo_laws.specs.Solo as spec;
+ghost use Rattle.nemo_replay.specs.StageRun as spec;
 
 use nemo_base::{Settings, TaskId};
 use nemo_core::{Core, Event, LaunchRefused};

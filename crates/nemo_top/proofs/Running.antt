@@ -10,7 +10,7 @@ use Rattle.nemo_ir.specs.Valid.{Valid}
 use Rattle.nemo_ir.specs.declared.dag.IrDag.{IrDag}
 use Rattle.nemo_job.specs.Sinks.{job_rows}
 use Rattle.nemo_laws.specs.Done.{IsDoneRun}
-use Rattle.nemo_laws.specs.Solo.{solo_log, tasks_in}
+use Rattle.nemo_replay.specs.StageRun.{solo_log, tasks_in}
 use Rattle.nemo_laws.specs.Written.{written}
 use Rattle.nemo_plan.specs.Form.{PlanForm}
 use Rattle.nemo_policy.proofs.ChainMain.{chain_main}

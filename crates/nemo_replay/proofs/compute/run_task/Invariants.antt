@@ -1,5 +1,5 @@
 use Rattle.std.proofs.Common.{◌≡◌, [], drop}
-use Rattle.nemo_laws.specs.Solo.{task_rows}
+use Rattle.nemo_replay.specs.StageRun.{task_rows}
 use Rattle.nemo_replay.proofs.compute.run_task.Given as goal
 
 -- the rows so far, after the vertices that are left, are those after all

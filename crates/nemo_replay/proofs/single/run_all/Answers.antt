@@ -1,5 +1,5 @@
 use Rattle.std.proofs.Common.{[], ◌∙◌}
-use Rattle.nemo_laws.specs.Solo.{task_rows, tasks_in}
+use Rattle.nemo_replay.specs.StageRun.{task_rows, tasks_in}
 use Rattle.nemo_replay.proofs.Turns.{log_more, rows_more}
 use Rattle.nemo_replay.proofs.single.run_all.Goals as goal
 

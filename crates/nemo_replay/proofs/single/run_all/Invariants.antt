@@ -1,7 +1,7 @@
 use Rattle.std.proofs.Common.{◌≡◌, []}
 use Rattle.std.specs.List.{flat_map}
 use Rattle.nemo_ir.specs.Along.{below}
-use Rattle.nemo_laws.specs.Solo.{task_rows, tasks_in, turn}
+use Rattle.nemo_replay.specs.StageRun.{task_rows, tasks_in, turn}
 use Rattle.nemo_replay.specs.Ready.{ready_core}
 use Rattle.nemo_replay.proofs.single.run_all.Given as goal
 

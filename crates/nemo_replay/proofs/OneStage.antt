@@ -17,8 +17,8 @@ use Rattle.nemo_plan.specs.Form.{PlanForm}
 use Rattle.nemo_plan.specs.LinePlan.{IsLinePlan}
 use Rattle.nemo_plan.proofs.LinePlan.{line_plan}
 use Rattle.nemo_plan.proofs.Standing.{Standing, standing}
-use Rattle.nemo_laws.specs.Solo.{IsOneStage, rows_by, task_rows, tasks_in}
-use Rattle.nemo_laws.proofs.Tasks.{deed_at, deed_in, ran}
+use Rattle.nemo_replay.specs.StageRun.{IsOneStage, rows_by, task_rows, tasks_in}
+use Rattle.nemo_replay.proofs.Tasks.{deed_at, deed_in, line_part}
 
 -- how many vertices the plan has
 abbrev pub count : PlanForm → ℕ
@@ -65,15 +65,15 @@ module _ (p : PlanForm) (o : IsOneStage p) (n i : ℕ) where
   does_at v l = let s = stands p o v l in ap (deed_in p.flat) s.copy_at ∙ ap deed_or s.is
 
   -- a vertex on what the one before it gives
-  ran_next : (u : ℕ) (l : suc u < count p) → ran p n i (suc u) ≡ given_on (origin p.dag (suc u)) (dealt_to n i (stands p o (suc u) l).transform) (ran p n i u)
-  ran_next u l =
+  part_next : (u : ℕ) (l : suc u < count p) → line_part p n i (suc u) ≡ given_on (origin p.dag (suc u)) (dealt_to n i (stands p o (suc u) l).transform) (line_part p n i u)
+  part_next u l =
       let s = stands p o (suc u) l in
-      ap (λ d. done_by (origin p.dag (suc u)) n i d (ran p n i u ∷ [])) (does_at (suc u) l)
-      ∙ one_gives (origin p.dag (suc u)) (dealt_to n i s.transform) (ran p n i u) (dealt_kinds n i s.transform ∙ s.main)
+      ap (λ d. done_by (origin p.dag (suc u)) n i d (line_part p n i u ∷ [])) (does_at (suc u) l)
+      ∙ one_gives (origin p.dag (suc u)) (dealt_to n i s.transform) (line_part p n i u) (dealt_kinds n i s.transform ∙ s.main)
 
   -- the first vertex
-  ran_first : (l : 0 < count p) → (ran p n i 0).rows ≡ rows_in (answers (dealt_to n i (stands p o 0 l).transform) [] [])
-  ran_first l =
+  part_first : (l : 0 < count p) → (line_part p n i 0).rows ≡ rows_in (answers (dealt_to n i (stands p o 0 l).transform) [] [])
+  part_first l =
       let s = stands p o 0 l in
       ap (λ d. (done_by (origin p.dag 0) n i d []).rows) (does_at 0 l)
       ∙ none_gives (origin p.dag 0) (dealt_to n i s.transform) (dealt_kinds n i s.transform ∙ s.main)
@@ -84,17 +84,17 @@ module _ (p : PlanForm) (o : IsOneStage p) (n i : ℕ) where
   none_passed (x ∷ xs) ys e = cc
 
   -- where a vertex has no fault, the one before it has none
-  pub clean_before : (u : ℕ) → suc u < count p → (ran p n i (suc u)).faults ≡ [] → (ran p n i u).faults ≡ []
+  pub clean_before : (u : ℕ) → suc u < count p → (line_part p n i (suc u)).faults ≡ [] → (line_part p n i u).faults ≡ []
   clean_before u l e =
       let s = stands p o (suc u) l in
-      none_passed (ran p n i u).faults (map (arisen (origin p.dag (suc u))) (own_faults (answers (dealt_to n i s.transform) (ran p n i u).rows [])))
-      (sym (ap (λ f. f.faults) (ran_next u l)) ∙ e)
+      none_passed (line_part p n i u).faults (map (arisen (origin p.dag (suc u))) (own_faults (answers (dealt_to n i s.transform) (line_part p n i u).rows [])))
+      (sym (ap (λ f. f.faults) (part_next u l)) ∙ e)
 
-  pub clean_below : (c v : ℕ) → v + c < count p → (ran p n i (v + c)).faults ≡ [] → (ran p n i v).faults ≡ []
-  clean_below zero v l e = let here : v + 0 ≡ v = omega arith in sym (ap (λ w. (ran p n i w).faults) here) ∙ e
+  pub clean_below : (c v : ℕ) → v + c < count p → (line_part p n i (v + c)).faults ≡ [] → (line_part p n i v).faults ≡ []
+  clean_below zero v l e = let here : v + 0 ≡ v = omega arith in sym (ap (λ w. (line_part p n i w).faults) here) ∙ e
   clean_below (suc c) v l e =
       let up : v + suc c ≡ suc v + c = omega arith in
-      clean_before v (omega arith) (clean_below c (suc v) (omega arith) (sym (ap (λ w. (ran p n i w).faults) up) ∙ e))
+      clean_before v (omega arith) (clean_below c (suc v) (omega arith) (sym (ap (λ w. (line_part p n i w).faults) up) ∙ e))
 
   ---- the rows
 
@@ -105,19 +105,19 @@ module _ (p : PlanForm) (o : IsOneStage p) (n i : ℕ) where
   task_more (y ∷ ys) zero x rows e = ap (λ w. rows_by n i (transform_of p.flat w) rows) (same_item y x e)
   task_more (y ∷ ys) (suc j) x rows e = task_more ys j x (rows_by n i (transform_of p.flat y) rows) e
 
-  rows_up : (v : ℕ) → v < count p → task_rows p.flat n i (take (suc v) p.flat.vertices) [] ≡ (ran p n i v).rows
+  rows_up : (v : ℕ) → v < count p → task_rows p.flat n i (take (suc v) p.flat.vertices) [] ≡ (line_part p n i v).rows
   rows_up zero l =
       let s = stands p o 0 l in
-      task_more p.flat.vertices 0 s.copy [] s.copy_at ∙ ap (λ t. rows_by n i t []) s.is ∙ sym (ran_first l)
+      task_more p.flat.vertices 0 s.copy [] s.copy_at ∙ ap (λ t. rows_by n i t []) s.is ∙ sym (part_first l)
   rows_up (suc u) l =
       let s = stands p o (suc u) l in
       task_more p.flat.vertices (suc u) s.copy [] s.copy_at
       ∙ ap (λ t. rows_by n i t (task_rows p.flat n i (take (suc u) p.flat.vertices) [])) s.is
       ∙ ap (λ rows. rows_in (answers (dealt_to n i s.transform) rows [])) (rows_up u (omega arith))
-      ∙ sym (ap (λ f. f.rows) (ran_next u l))
+      ∙ sym (ap (λ f. f.rows) (part_next u l))
 
   -- after all vertices a task has the rows that it gives at the last
-  pub rows_end : (v : ℕ) → suc v ≡ count p → task_rows p.flat n i p.flat.vertices [] ≡ (ran p n i v).rows
+  pub rows_end : (v : ℕ) → suc v ≡ count p → task_rows p.flat n i p.flat.vertices [] ≡ (line_part p n i v).rows
   rows_end v e =
       let size : length p.flat.vertices ≡ count p = (stage_plan p o).flat_count in
       sym (ap (λ xs. task_rows p.flat n i xs []) (take_all (suc v) p.flat.vertices (omega arith))) ∙ rows_up v (omega arith)

@@ -32,11 +32,11 @@ use Rattle.nemo_core.specs.declared.event.Event.{Event}
 use Rattle.nemo_plan.specs.Form.{PlanForm}
 use Rattle.nemo_ir.specs.Nodes.{transform_in}
 use Rattle.nemo_plan.proofs.Ends.{last_sink, no_sink}
-use Rattle.nemo_laws.specs.Solo.{IsOneStage, tasks_in}
+use Rattle.nemo_replay.specs.StageRun.{IsOneStage, tasks_in}
 use Rattle.nemo_laws.specs.Written.{block_rows, sink_at, sink_written, written}
-use Rattle.nemo_laws.proofs.Computed.{ran_rows}
-use Rattle.nemo_laws.proofs.OneStage.{count, stage_plan, stands}
-use Rattle.nemo_laws.proofs.Tasks.{ran}
+use Rattle.nemo_replay.proofs.Computed.{task_rows_are}
+use Rattle.nemo_replay.proofs.OneStage.{count, stage_plan, stands}
+use Rattle.nemo_replay.proofs.Tasks.{line_part}
 
 ---- the sink of a line
 
@@ -51,7 +51,7 @@ named (Some t) h = cc
 named None h = cc
 
 -- a vertex of the DAG is the sink that the flat vertex of its number is
-pub sink_is : (p : PlanForm) (o : IsOneStage p) (v : ℕ) (u : IrVertex) (l : v < count p) → slice_get p.dag.vertices v ≡ Some u → sink_at p u ≡ sink_name (transform_of p.flat (stands p o v l).copy)
+sink_is : (p : PlanForm) (o : IsOneStage p) (v : ℕ) (u : IrVertex) (l : v < count p) → slice_get p.dag.vertices v ≡ Some u → sink_at p u ≡ sink_name (transform_of p.flat (stands p o v l).copy)
 sink_is p o v u l e =
     let s = stands p o v l in
     ap (sink_at p) (same_item u s.op (sym e ∙ s.op_at)) ∙ ap (λ d. sink_name (transform_in d)) s.deed ∙ sym (ap sink_name s.is)
@@ -142,7 +142,7 @@ flat_counted f g k (suc c) h =
 
 -- each block of the last vertex has the rows that its task gives there
 abbrev BlocksAre : PlanForm → SettingsForm → List Event → Type 0
-BlocksAre p k log = (i : ℕ) → i < tasks_in p → block_rows p k log (count p - 1) i ≡ (ran p (tasks_in p) i (count p - 1)).rows
+BlocksAre p k log = (i : ℕ) → i < tasks_in p → block_rows p k log (count p - 1) i ≡ (line_part p (tasks_in p) i (count p - 1)).rows
 
 module _ (p : PlanForm) (o : IsOneStage p) (k : SettingsForm) (log : List Event) (blocks : BlocksAre p k log) where
   abbrev end_sink : SinkRows
@@ -155,8 +155,8 @@ module _ (p : PlanForm) (o : IsOneStage p) (k : SettingsForm) (log : List Event)
   rows_are : sorted record_cmp (rows_of (count p - 1) (tasks_in p)) ≡ sorted record_cmp (value p.flat (count p - 1)).rows
   rows_are =
       let some : 1 ≤ count p = (stage_plan p o).some in
-      ap (sorted record_cmp) (flat_counted (block_rows p k log (count p - 1)) (λ i. (ran p (tasks_in p) i (count p - 1)).rows) 0 (tasks_in p) (λ i l. blocks i (omega arith)))
-      ∙ sorted_alike record_cmp record_strict (from_std _ _ (ran_rows p o (count p - 1) (omega arith)))
+      ap (sorted record_cmp) (flat_counted (block_rows p k log (count p - 1)) (λ i. (line_part p (tasks_in p) i (count p - 1)).rows) 0 (tasks_in p) (λ i l. blocks i (omega arith)))
+      ∙ sorted_alike record_cmp record_strict (from_std _ _ (task_rows_are p o (count p - 1) (omega arith)))
 
   inner_written : (v : ℕ) (u : IrVertex) → slice_get p.dag.vertices v ≡ Some u → suc v < count p → sink_written p k log v u ≡ None
   inner_written v u e l =

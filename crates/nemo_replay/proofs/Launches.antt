@@ -13,10 +13,10 @@ use Rattle.nemo_core.specs.State.{Machine, fresh_task, task_at, held_in, flat, i
 use Rattle.nemo_core.specs.Step.{after, conditions, fits, is_idle, is_open, launched, refusal}
 use Rattle.nemo_core.specs.declared.event.Event.TheVariants.{Launch}
 use Rattle.nemo_plan.specs.Line.{line_graph, line_vertex, vertex_of}
-use Rattle.nemo_laws.specs.Solo.{first_stage}
-use Rattle.nemo_laws.proofs.Counted.{any_at_none, first_some, map_at_below, map_get, map_get_or}
-use Rattle.nemo_laws.proofs.Refusals.{all_met, fails_at}
-use Rattle.nemo_laws.specs.Ready.{block_after, blocks_after, blocks_if, busy, from_attempt, ready}
+use Rattle.nemo_replay.specs.StageRun.{first_stage}
+use Rattle.nemo_replay.proofs.Counted.{any_at_none, first_some, map_at_below, map_get, map_get_or}
+use Rattle.nemo_replay.proofs.Refusals.{all_met, fails_at}
+use Rattle.nemo_replay.specs.StageStates.{block_after, blocks_after, blocks_if, busy, from_attempt, ready}
 
 -- a slot that is there, and that the tasks fit on
 pub record IsSlot (k : SettingsForm) (slot : ℕ) : Type 0 where
@@ -35,7 +35,7 @@ sink_last m n some =
     ap (passes (λ row. is_master row.home)) (vertex_at m n (m - 1) lt)
     ∙ ap (λ b. is_master (vertex_of b n).home) (eq-eqb (suc (m - 1)) m last)
 
-pub row_last : (m n i : ℕ) → 1 ≤ m → row_at (map (blocks_after m n i) (below m)) (m - 1) ≡ map (block_after i) (below n)
+row_last : (m n i : ℕ) → 1 ≤ m → row_at (map (blocks_after m n i) (below m)) (m - 1) ≡ map (block_after i) (below n)
 row_last m n i some =
     let lt : m - 1 < m = omega arith in
     let last : suc (m - 1) ≡ m = omega arith in
@@ -57,7 +57,7 @@ needed_if : (a b c : Bool) → a ≡ true → b ≡ true → ((a && (b || c)) ||
 needed_if a b c p q = ap (λ x. (x && (b || c)) || false) p ∙ ap (λ x. (x || c) || false) q
 
 -- task j is needed where its block is gone
-pub needed_from : (m n : ℕ) (k : SettingsForm) (i j : ℕ) → 1 ≤ m → j < n → i ≤ j → is_needed (line_graph m n) (ready m n k i) (first_stage j) ≡ true
+needed_from : (m n : ℕ) (k : SettingsForm) (i j : ℕ) → 1 ≤ m → j < n → i ≤ j → is_needed (line_graph m n) (ready m n k i) (first_stage j) ≡ true
 needed_from m n k i j some lt le =
     let gone : is_gone (ready m n k i) (m - 1) j ≡ true = ap (λ o. not (is_some o)) (held_last m n i j some lt ∙ gone_from i j le) in
     needed_if (is_gone (ready m n k i) (m - 1) j) (is_sink (line_graph m n) (m - 1)) (is_read_by (line_graph m n) (needed_in (line_graph m n) (is_gone (ready m n k i)) 0) (m - 1) j) gone (sink_last m n some)
@@ -99,9 +99,6 @@ launch_after m n k i slot =
 
 abbrev pub machine_of : ℕ → ℕ → SettingsForm → ℕ → ℕ → Machine
 machine_of m n k i taken = record { graph = line_graph m n; settings = k; state = ready m n k i; taken = taken }
-
-pub launch_next : (m n : ℕ) (k : SettingsForm) (i slot taken : ℕ) → launch_of (machine_of m n k i taken) (first_stage i) slot ≡ Launch i (first_stage i) slot []
-launch_next m n k i slot taken = refl
 
 done_refused : (m n : ℕ) (k : SettingsForm) (i j slot : ℕ) → 1 ≤ m → j < n → j < i → is_none (refusal (line_graph m n) k (ready m n k i) (Launch i (first_stage j) slot [])) ≡ false
 done_refused m n k i j slot some lt before =

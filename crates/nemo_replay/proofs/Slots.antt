@@ -4,8 +4,8 @@ use Rattle.std.proofs.lemmas.Bool.{lt-ltb, le-leb, eqb-false}
 use Rattle.nemo_base.specs.declared.annotation.Class.TheVariants.{Transient}
 use Rattle.nemo_base.specs.Settings.{AreInRange, SettingsForm}
 use Rattle.nemo_core.specs.Step.{fits}
-use Rattle.nemo_laws.specs.Solo.{slot_of}
-use Rattle.nemo_laws.proofs.Launches.{IsSlot}
+use Rattle.nemo_replay.specs.StageRun.{slot_of}
+use Rattle.nemo_replay.proofs.Launches.{IsSlot}
 
 reserved_less : (i r : ℕ) → 1 ≤ r → i % r < r
 reserved_less i r h = omega arith
@@ -19,14 +19,14 @@ within_if k i false range e =
     let some : k.transient ≡ 0 → ⊥ = eqb-false k.transient 0 e in
     let less = reserved_less i k.transient (omega (arith, some)) in omega (arith, less)
 
-pub slot_within : (k : SettingsForm) (i : ℕ) → AreInRange k → slot_of k i < k.reserved + k.transient
+slot_within : (k : SettingsForm) (i : ℕ) → AreInRange k → slot_of k i < k.reserved + k.transient
 slot_within k i range = within_if k i (k.transient == 0) range refl
 
 fits_if : (k : SettingsForm) (i : ℕ) (b : Bool) → AreInRange k → (if b then nat_lt (chosen b k i) k.reserved else nat_le k.reserved (chosen b k i)) ≡ true
 fits_if k i true range = lt-ltb (i % k.reserved) k.reserved (reserved_less i k.reserved range.reserved)
 fits_if k i false range = le-leb k.reserved (k.reserved + i % k.transient) (omega arith)
 
-pub slot_fits : (k : SettingsForm) (i : ℕ) → AreInRange k → fits k (slot_of k i) Transient ≡ true
+slot_fits : (k : SettingsForm) (i : ℕ) → AreInRange k → fits k (slot_of k i) Transient ≡ true
 slot_fits k i range = fits_if k i (k.transient == 0) range
 
 pub slot_good : (k : SettingsForm) (i : ℕ) → AreInRange k → IsSlot k (slot_of k i)

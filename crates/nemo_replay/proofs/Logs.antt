@@ -12,20 +12,20 @@ use Rattle.nemo_core.specs.declared.event.Event.{Event}
 use Rattle.nemo_core.specs.declared.event.Event.TheVariants.{Launch, Commit, Finish}
 use Rattle.nemo_core.specs.declared.event.Outcome.TheVariants.{Done}
 use Rattle.nemo_plan.specs.Line.{line_graph}
-use Rattle.nemo_laws.specs.Holds.{state_of}
-use Rattle.nemo_laws.specs.Solo.{first_stage, slot_of, solo_log, turn}
-use Rattle.nemo_laws.proofs.Commits.{commit_after}
-use Rattle.nemo_laws.proofs.Counted.{below_suc}
-use Rattle.nemo_laws.proofs.Launches.{launch_after}
-use Rattle.nemo_laws.specs.Ready.{busy, ready}
-use Rattle.nemo_laws.proofs.States.{start_ready}
+use Rattle.nemo_laws.specs.Data.{state_of}
+use Rattle.nemo_replay.specs.StageRun.{first_stage, slot_of, solo_log, turn}
+use Rattle.nemo_replay.proofs.Commits.{commit_after}
+use Rattle.nemo_replay.proofs.Counted.{below_suc}
+use Rattle.nemo_replay.proofs.Launches.{launch_after}
+use Rattle.nemo_replay.specs.StageStates.{busy, ready}
+use Rattle.nemo_replay.proofs.States.{start_ready}
 
-pub run_on_append : (g : TaskGraph) (k : SettingsForm) (s : State) (es fs : List Event) → run_on g k s (es ++ fs) ≡ run_on g k (run_on g k s es) fs
+run_on_append : (g : TaskGraph) (k : SettingsForm) (s : State) (es fs : List Event) → run_on g k s (es ++ fs) ≡ run_on g k (run_on g k s es) fs
 run_on_append g k s [] fs = refl
 run_on_append g k s (e ∷ es) fs = run_on_append g k (after g k s e) es fs
 
 -- a task is launched and committed
-pub turn_after : (m n : ℕ) (k : SettingsForm) (i : ℕ) → i < n → run_on (line_graph m n) k (ready m n k i) (turn k i) ≡ ready m n k (suc i)
+turn_after : (m n : ℕ) (k : SettingsForm) (i : ℕ) → i < n → run_on (line_graph m n) k (ready m n k i) (turn k i) ≡ ready m n k (suc i)
 turn_after m n k i lt = ap (λ s. after (line_graph m n) k s (Commit i)) (launch_after m n k i (slot_of k i)) ∙ commit_after m n k i (slot_of k i) lt
 
 -- the turns of the first tasks

@@ -16,11 +16,10 @@ use Rattle.nemo_ir.specs.Value.{ByNumber, value}
 use Rattle.nemo_ir.proofs.Computing.{computes}
 use Rattle.nemo_ir.proofs.ValidNodes.{valid_wired}
 use Rattle.nemo_plan.specs.Form.{PlanForm}
-use Rattle.nemo_laws.specs.Solo.{IsOneStage, tasks_in}
-use Rattle.nemo_laws.proofs.OneStage.{count, stage_plan, stands}
-use Rattle.nemo_laws.proofs.TaskParts.{part_is, tasks_are}
-use Rattle.nemo_laws.proofs.Tasks.{ran}
-use Rattle.nemo_laws.proofs.Uncut.{uncut, uncut_fits}
+use Rattle.nemo_replay.specs.StageRun.{IsOneStage, tasks_in}
+use Rattle.nemo_replay.proofs.OneStage.{count, stage_plan, stands}
+use Rattle.nemo_replay.proofs.Tasks.{count_tasks, line_part, part_is}
+use Rattle.nemo_replay.proofs.Uncut.{uncut, uncut_fits}
 
 none_first : {X : Type 0} (xs ys : List X) → xs ++ ys ≡ [] → xs ≡ []
 none_first [] ys e = refl
@@ -47,7 +46,7 @@ module _ (p : PlanForm) (o : IsOneStage p) where
 
   -- the tasks of vertex v
   tasks_ran : (v : ℕ) → v < count p → tasks_at p.flat p.dag (uncut p.dag) v ≡ map (λ i. (get_or (all_parts p.flat p.dag (uncut p.dag)) v no_parts).task i) (below (tasks_in p))
-  tasks_ran v l = ap (λ n. map (λ i. (get_or (all_parts p.flat p.dag (uncut p.dag)) v no_parts).task i) (below n)) (tasks_are p (count p) (tasks_in p) (stage_plan p o) (uncut p.dag) v l)
+  tasks_ran v l = ap (λ n. map (λ i. (get_or (all_parts p.flat p.dag (uncut p.dag)) v no_parts).task i) (below n)) (count_tasks p (count p) (tasks_in p) (stage_plan p o) (uncut p.dag) v l)
 
   abbrev own_part : ℕ → ℕ → ByNumber
   own_part v i = part p.flat p.dag (uncut p.dag) v i
@@ -55,31 +54,24 @@ module _ (p : PlanForm) (o : IsOneStage p) where
   own_rep : (v : ℕ) → v < count p → tasks_at p.flat p.dag (uncut p.dag) (rep_of p.dag v) ≡ map (own_part v) (below (tasks_in p))
   own_rep v l = ap (tasks_at p.flat p.dag (uncut p.dag)) (stands p o v l).rep ∙ tasks_ran v l
 
-  own_is : (v i : ℕ) → v < count p → own_part v i ≡ ran p (tasks_in p) i v
+  own_is : (v i : ℕ) → v < count p → own_part v i ≡ line_part p (tasks_in p) i v
   own_is v i l = part_is p (count p) (tasks_in p) (stage_plan p o) (uncut p.dag) v i l
 
   ---- rows
 
-  pub ran_rows : (v : ℕ) → v < count p → IsPermutation (flat_map (λ i. (ran p (tasks_in p) i v).rows) (below (tasks_in p))) (value p.flat v).rows
-  ran_rows v l =
+  pub task_rows_are : (v : ℕ) → v < count p → IsPermutation (flat_map (λ i. (line_part p (tasks_in p) i v).rows) (below (tasks_in p))) (value p.flat v).rows
+  task_rows_are v l =
       subst (λ rows. IsPermutation rows (value p.flat v).rows)
       (ap all_rows (own_rep v l)
       ∙ flat_over_map (λ (b : ByNumber). b.rows) (own_part v) (below (tasks_in p))
-      ∙ flat_same (λ i. (own_part v i).rows) (λ i. (ran p (tasks_in p) i v).rows) (below (tasks_in p)) (λ i. ap (λ b. b.rows) (own_is v i l)))
+      ∙ flat_same (λ i. (own_part v i).rows) (λ i. (line_part p (tasks_in p) i v).rows) (below (tasks_in p)) (λ i. ap (λ b. b.rows) (own_is v i l)))
       (computed v l).rows
-
-  pub part_rows : (cuts : ℕ → List ℕ) (v : ℕ) → v < count p → IsPermutation (flat_map (λ i. (part p.flat p.dag cuts v i).rows) (below (tasks_in p))) (value p.flat v).rows
-  part_rows cuts v l =
-      subst (λ rows. IsPermutation rows (value p.flat v).rows)
-      (sym (flat_same (λ i. (part p.flat p.dag cuts v i).rows) (λ i. (ran p (tasks_in p) i v).rows) (below (tasks_in p))
-      (λ i. ap (λ b. b.rows) (part_is p (count p) (tasks_in p) (stage_plan p o) cuts v i l))))
-      (ran_rows v l)
 
   ---- faults
 
   -- where the flat vertex has no fault, no task has one
-  pub ran_clean : (v i : ℕ) → v < count p → i < tasks_in p → (value p.flat v).faults ≡ [] → (ran p (tasks_in p) i v).faults ≡ []
-  ran_clean v i l lt e =
+  pub line_clean : (v i : ℕ) → v < count p → i < tasks_in p → (value p.flat v).faults ≡ [] → (line_part p (tasks_in p) i v).faults ≡ []
+  line_clean v i l lt e =
       let all : SameMembers (all_faults (tasks_at p.flat p.dag (uncut p.dag) (rep_of p.dag v))) (map (renamed (called p.dag)) (value p.flat v).faults) = (computed v l).faults in
       let none : all_faults (tasks_at p.flat p.dag (uncut p.dag) (rep_of p.dag v)) ≡ [] =
       none_in (all_faults (tasks_at p.flat p.dag (uncut p.dag) (rep_of p.dag v)))
