@@ -1,1 +1,10 @@
+pub mod Ancestry
+pub mod CarriedParts
+pub mod Committing
+pub mod Deciding
+pub mod Launching
 pub mod LossesKept
+pub mod ReadBlocks
+pub mod Recomputing
+pub mod Recuts
+pub mod Stepping

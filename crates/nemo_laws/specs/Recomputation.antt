@@ -27,8 +27,9 @@ use Rattle.nemo_plan.specs.Stages.{stages_of}
 use Rattle.nemo_laws.specs.Data.{Ran, cuts_at, given_by, ran_of, state_of, with_attempt}
 use Rattle.nemo_laws.specs.Legal.{IsHonest, Legal}
 
--- what attempt a gave at vertex v is the part of task i there under the present cuts, and that part has no fault
+-- what attempt a, which was launched, gave at vertex v is the part of task i there under the present cuts, and that part has no fault
 pub record IsPart (p : PlanForm) (ran : List Ran) (s : State) (a v i : ℕ) : Type 0 where
+  pub launched : a < length ran
   pub is : given_by ran a v ≡ part p.flat p.dag (cuts_at s) v i
   pub faultless : (part p.flat p.dag (cuts_at s) v i).faults ≡ []
 
@@ -52,7 +53,7 @@ abbrev pub AreReadsSealed : TaskGraph → State → ℕ → Type 0
 AreReadsSealed g s stage = (r : Read) (row : VertexRow) → In r (reads_of g stage) → slice_get g.vertices r.vertex ≡ Some row → is_sealed s row.stage ≡ true
 
 -- a running attempt of the task, as it was launched
-pub record RunsRightly (p : PlanForm) (ran : List Ran) (s : State) (t : TaskId) (a : ℕ) : Type 0 where
+pub record RunsRightly (p : PlanForm) (g : TaskGraph) (ran : List Ran) (s : State) (t : TaskId) (a : ℕ) : Type 0 where
   pub launch : Ran
   pub number : slice_get ran a ≡ Some launch
   pub task : launch.task ≡ t
@@ -61,22 +62,27 @@ pub record RunsRightly (p : PlanForm) (ran : List Ran) (s : State) (t : TaskId) 
   -- it was launched under cuts that agree with the present ones on the vertices of its stage and their ancestors
   pub cuts : (u v : ℕ) → is_of_stage (stages_of p.flat p.dag) t.stage v ≡ true → Leads p.dag u v → launch.cuts u ≡ cuts_at s u
   -- each block that it reads was held, by an attempt that gave the part of it
-  pub reads : (n : ℕ) (b : BlockId) → slice_get (named (graph p) t) n ≡ Some b
+  pub reads : (n : ℕ) (b : BlockId) → slice_get (named g t) n ≡ Some b
       → (h : HeldBy) × (slice_get launch.reads n ≡ Some (Some h)) × IsPart p ran s h.attempt b.vertex b.task
-  pub sealed : AreReadsSealed (graph p) s t.stage
+  pub sealed : AreReadsSealed g s t.stage
 
--- what holds after each event of a legal log
-pub record IsRight (p : PlanForm) (ran : List Ran) (s : State) : Type 0 where
+-- what holds of a plan with this graph after each event of a legal log
+pub record IsRightOn (p : PlanForm) (g : TaskGraph) (ran : List Ran) (s : State) : Type 0 where
   pub count : length ran ≡ s.launches
   pub assignment : IsAssignment p.dag (cuts_at s)
   -- a block that is held is its part under the present cuts, and that part has no fault
   pub held : (v i : ℕ) (h : HeldBy) → held_at s v i ≡ Some h → IsPart p ran s h.attempt v i
   -- the stage of a held block is sealed, and so is each that a sealed stage reads
-  pub sealed : (v i : ℕ) (h : HeldBy) (row : VertexRow) → held_at s v i ≡ Some h → slice_get (graph p).vertices v ≡ Some row → is_sealed s row.stage ≡ true
-  pub reads : (stage : ℕ) → is_sealed s stage ≡ true → AreReadsSealed (graph p) s stage
-  pub running : (t : TaskId) (row : TaskRow) (a : Attempt) → task_at s t ≡ Some row → row.running ≡ Some a → RunsRightly p ran s t a.number
+  pub sealed : (v i : ℕ) (h : HeldBy) (row : VertexRow) → held_at s v i ≡ Some h → slice_get g.vertices v ≡ Some row → is_sealed s row.stage ≡ true
+  pub reads : (stage : ℕ) → is_sealed s stage ≡ true → AreReadsSealed g s stage
+  -- every skewed vertex of a sealed stage is decided
+  pub settled : (stage : ℕ) → is_sealed s stage ≡ true → all_decided g s stage ≡ true
+  pub running : (t : TaskId) (row : TaskRow) (a : Attempt) → task_at s t ≡ Some row → row.running ≡ Some a → RunsRightly p g ran s t a.number
   -- no attempt of a stage with an undecided skewed vertex was launched
-  pub decided : (a : ℕ) (r : Ran) → slice_get ran a ≡ Some r → all_decided (graph p) s r.task.stage ≡ true
+  pub decided : (a : ℕ) (r : Ran) → slice_get ran a ≡ Some r → all_decided g s r.task.stage ≡ true
+
+abbrev pub IsRight : PlanForm → List Ran → State → Type 0
+IsRight p ran s = IsRightOn p (graph p) ran s
 
 pub record RecomputationLaw : Type 0 where
   -- so it is at the start

@@ -16,10 +16,10 @@ use Rattle.nemo_core.specs.declared.event.Event.TheVariants.{Commit, Finish}
 use Rattle.nemo_core.specs.declared.event.HeldBy.{HeldBy}
 use Rattle.nemo_plan.specs.Line.{line_graph, vertex_of}
 use Rattle.nemo_value.proofs.JoinedLists.{map_map}
+use Rattle.nemo_replay.specs.StageStates.{block_after, blocks_after, blocks_if, busy, busy_task, from_attempt, ready, task_while}
 use Rattle.nemo_replay.proofs.Counted.{all_each, all_fails, any_at_none, any_at_some, map_at_below, map_get, map_same}
 use Rattle.nemo_replay.proofs.Launches.{gone_from, held_before, sink_last, vertex_at}
 use Rattle.nemo_replay.proofs.Refusals.{all_met, fails_here}
-use Rattle.nemo_replay.specs.StageStates.{block_after, blocks_after, blocks_if, busy, busy_task, from_attempt, ready, task_while}
 
 ---- the running task
 

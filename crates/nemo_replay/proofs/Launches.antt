@@ -8,15 +8,15 @@ use Rattle.nemo_base.specs.Settings.{AreInRange, SettingsForm}
 use Rattle.nemo_ir.specs.Along.{below}
 use Rattle.nemo_base.specs.Needed.{is_sink, is_master, is_read_by, needed_in}
 use Rattle.nemo_base.specs.Places.{any_at, or_else, row_at}
-use Rattle.nemo_core.specs.Reading.{launch_of, launchable, may_launch}
+use Rattle.nemo_core.specs.Reading.{launchable, may_launch}
 use Rattle.nemo_core.specs.State.{Machine, fresh_task, task_at, held_in, flat, is_gone, is_needed}
 use Rattle.nemo_core.specs.Step.{after, conditions, fits, is_idle, is_open, launched, refusal}
 use Rattle.nemo_core.specs.declared.event.Event.TheVariants.{Launch}
 use Rattle.nemo_plan.specs.Line.{line_graph, line_vertex, vertex_of}
 use Rattle.nemo_replay.specs.StageRun.{first_stage}
+use Rattle.nemo_replay.specs.StageStates.{block_after, blocks_after, blocks_if, busy, from_attempt, ready}
 use Rattle.nemo_replay.proofs.Counted.{any_at_none, first_some, map_at_below, map_get, map_get_or}
 use Rattle.nemo_replay.proofs.Refusals.{all_met, fails_at}
-use Rattle.nemo_replay.specs.StageStates.{block_after, blocks_after, blocks_if, busy, from_attempt, ready}
 
 -- a slot that is there, and that the tasks fit on
 pub record IsSlot (k : SettingsForm) (slot : ℕ) : Type 0 where

@@ -14,10 +14,10 @@ use Rattle.nemo_core.specs.declared.event.Outcome.TheVariants.{Done}
 use Rattle.nemo_plan.specs.Line.{line_graph}
 use Rattle.nemo_laws.specs.Data.{state_of}
 use Rattle.nemo_replay.specs.StageRun.{first_stage, slot_of, solo_log, turn}
+use Rattle.nemo_replay.specs.StageStates.{busy, ready}
 use Rattle.nemo_replay.proofs.Commits.{commit_after}
 use Rattle.nemo_replay.proofs.Counted.{below_suc}
 use Rattle.nemo_replay.proofs.Launches.{launch_after}
-use Rattle.nemo_replay.specs.StageStates.{busy, ready}
 use Rattle.nemo_replay.proofs.States.{start_ready}
 
 run_on_append : (g : TaskGraph) (k : SettingsForm) (s : State) (es fs : List Event) → run_on g k s (es ++ fs) ≡ run_on g k (run_on g k s es) fs

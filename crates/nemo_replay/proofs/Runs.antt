@@ -23,9 +23,9 @@ use Rattle.nemo_core.specs.declared.event.Event.{Event}
 use Rattle.nemo_core.specs.declared.event.Event.TheVariants.{Finish}
 use Rattle.nemo_plan.specs.Form.{PlanForm, graph}
 use Rattle.nemo_plan.specs.Line.{line_graph}
-use Rattle.nemo_laws.specs.Done.{IsDoneRun}
-use Rattle.nemo_replay.specs.StageRun.{IsOneStage, solo_log, task_rows, tasks_in}
 use Rattle.nemo_laws.specs.Written.{written}
+use Rattle.nemo_replay.specs.StageRun.{IsOneStage, solo_log, task_rows, tasks_in}
+use Rattle.nemo_replay.specs.Ready.{end_name, one_sink, ready_core}
 use Rattle.nemo_replay.proofs.Commits.{finish_allowed}
 use Rattle.nemo_replay.proofs.Computed.{task_rows_are}
 use Rattle.nemo_replay.proofs.OneStage.{count, rows_end, stage_plan}
@@ -33,7 +33,6 @@ use Rattle.nemo_replay.proofs.SinkRows.{end_of, one_reached}
 use Rattle.nemo_replay.proofs.SoloRuns.{RunsWell, solo_runs}
 use Rattle.nemo_replay.proofs.States.{start_ready}
 use Rattle.nemo_replay.proofs.Tasks.{line_part}
-use Rattle.nemo_replay.specs.Ready.{end_name, one_sink, ready_core}
 use Rattle.nemo_replay.proofs.Turns.{core_is}
 
 pub start_core : (p : PlanForm) (k : SettingsForm) (core : Machine) → IsOneStage p → core ≡ start_machine (graph p) k → core ≡ ready_core p k 0

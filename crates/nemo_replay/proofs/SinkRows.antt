@@ -32,8 +32,8 @@ use Rattle.nemo_core.specs.declared.event.Event.{Event}
 use Rattle.nemo_plan.specs.Form.{PlanForm}
 use Rattle.nemo_ir.specs.Nodes.{transform_in}
 use Rattle.nemo_plan.proofs.Ends.{last_sink, no_sink}
-use Rattle.nemo_replay.specs.StageRun.{IsOneStage, tasks_in}
 use Rattle.nemo_laws.specs.Written.{block_rows, sink_at, sink_written, written}
+use Rattle.nemo_replay.specs.StageRun.{IsOneStage, tasks_in}
 use Rattle.nemo_replay.proofs.Computed.{task_rows_are}
 use Rattle.nemo_replay.proofs.OneStage.{count, stage_plan, stands}
 use Rattle.nemo_replay.proofs.Tasks.{line_part}

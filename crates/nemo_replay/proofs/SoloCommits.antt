@@ -11,14 +11,14 @@ use Rattle.nemo_core.specs.declared.event.Event.{Event}
 use Rattle.nemo_core.specs.declared.event.Event.TheVariants.{Commit, Finish}
 use Rattle.nemo_plan.specs.Line.{line_graph}
 use Rattle.nemo_laws.specs.Data.{state_of}
-use Rattle.nemo_replay.specs.StageRun.{slot_of, solo_log, turn}
 use Rattle.nemo_laws.specs.Written.{IsFromCommit, IsHeldFrom, StaysHeld, is_commit}
+use Rattle.nemo_replay.specs.StageRun.{slot_of, solo_log, turn}
+use Rattle.nemo_replay.specs.StageStates.{busy, ready}
 use Rattle.nemo_replay.proofs.Commits.{commit_after}
 use Rattle.nemo_replay.proofs.Counted.{below_split}
 use Rattle.nemo_replay.proofs.Launches.{gone_from, held_before, held_last, launch_after}
 use Rattle.nemo_replay.proofs.Logs.{launched_state, turns}
 use Rattle.nemo_replay.proofs.SoloHolds.{launch_of_task}
-use Rattle.nemo_replay.specs.StageStates.{busy, ready}
 
 -- the log before a task, and behind it
 pub record Split (k : SettingsForm) (n i : ℕ) : Type 0 where

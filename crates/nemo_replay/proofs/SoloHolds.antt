@@ -18,13 +18,13 @@ use Rattle.nemo_core.specs.declared.event.Event.TheVariants.{Launch, Commit, Spe
 use Rattle.nemo_plan.specs.Line.{line_graph, line_vertex, vertex_of}
 use Rattle.nemo_laws.specs.Holds.{Decisions, Holds, begins, launches, commits, IsLaunchHold, blocks_in, commit_hold, drops, finish_of, launch_event, least_spent, machine, may_be_spent, may_decide, may_drop}
 use Rattle.nemo_replay.specs.StageRun.{first_stage, slot_of, solo_log, turn}
+use Rattle.nemo_replay.specs.StageStates.{blocks_after, blocks_if, busy, ready}
 use Rattle.nemo_replay.proofs.Commits.{commit_after, finish_allowed, finish_early}
 use Rattle.nemo_replay.proofs.Counted.{filter_none, first_none, map_get_or, map_length}
 use Rattle.nemo_replay.proofs.Launches.{launchable_next, task_ready, vertex_at}
 use Rattle.nemo_replay.proofs.Logs.{launched_state, turns, turns_more, turns_state}
 use Rattle.nemo_replay.proofs.Refusals.{fails_at}
 use Rattle.nemo_replay.proofs.Slots.{slot_good}
-use Rattle.nemo_replay.specs.StageStates.{blocks_after, blocks_if, busy, ready}
 
 ---- nothing is spent, and nothing to be decided
 
@@ -72,10 +72,10 @@ launch_hold m n k i some lt range =
 undroppable : (m n : ℕ) (k : SettingsForm) (i : ℕ) (b : BlockId) → may_drop (line_graph m n) k (ready m n k i) b ≡ false
 undroppable m n k i b = elim (cases_lt b.vertex m) [
   | inl within ↦ elim (cases_Bool (suc b.vertex == m)) [
-      | inl last ↦ kept (ap (passes (λ row. row.discard)) (vertex_at m n b.vertex within) ∙ ap (λ l. (vertex_of l n).discard) last)
-      | inr other ↦ fails_at (conditions g k s (Drop b)) 1
-          (ap (λ row. not (is_some (slice_get row b.task))) (map_get_or (blocks_after m n i) [] m b.vertex within ∙ ap (λ l. blocks_if l n i) other))
-    ]
+    | inl last ↦ kept (ap (passes (λ row. row.discard)) (vertex_at m n b.vertex within) ∙ ap (λ l. (vertex_of l n).discard) last)
+    | inr other ↦ fails_at (conditions g k s (Drop b)) 1
+        (ap (λ row. not (is_some (slice_get row b.task))) (map_get_or (blocks_after m n i) [] m b.vertex within ∙ ap (λ l. blocks_if l n i) other))
+  ]
   | inr past ↦
       let size : length g.vertices ≡ m = map_length (line_vertex m n) m in
       kept (ap (passes (λ row. row.discard)) (slice_get_past g.vertices b.vertex (omega arith)))

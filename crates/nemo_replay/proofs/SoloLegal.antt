@@ -13,15 +13,15 @@ use Rattle.nemo_plan.specs.Form.{PlanForm, graph}
 use Rattle.nemo_plan.specs.Line.{line_graph}
 use Rattle.nemo_laws.specs.Data.{Ran, data_of, given_by, launched_as, ran_from, ran_of, state_of, task_gives, with_attempt}
 use Rattle.nemo_laws.specs.Legal.{Faultless, Legal, LegalFrom}
-use Rattle.nemo_replay.specs.StageRun.{first_stage, slot_of, solo_log, turn}
 use Rattle.nemo_laws.specs.Written.{block_rows}
+use Rattle.nemo_replay.specs.StageRun.{first_stage, slot_of, solo_log, turn}
+use Rattle.nemo_replay.specs.StageStates.{busy, from_attempt, ready}
 use Rattle.nemo_replay.proofs.Commits.{commit_after, commit_allowed, finish_allowed}
 use Rattle.nemo_replay.proofs.Launches.{held_before, held_last, launch_after, launch_allowed}
 use Rattle.nemo_replay.proofs.Logs.{solo_state, turns, turns_more, turns_state}
 use Rattle.nemo_replay.proofs.Slots.{slot_good}
 use Rattle.nemo_replay.proofs.SoloCommits.{solo_split}
 use Rattle.nemo_replay.proofs.SoloHolds.{launch_of_task}
-use Rattle.nemo_replay.specs.StageStates.{busy, from_attempt, ready}
 use Rattle.nemo_replay.proofs.States.{start_ready}
 
 ---- what the attempts give

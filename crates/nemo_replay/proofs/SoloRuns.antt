@@ -12,9 +12,9 @@ use Rattle.nemo_laws.specs.Data.{Given, Ran, cuts_at, held_parts, task_gives}
 use Rattle.nemo_laws.specs.Done.{IsDoneRun}
 use Rattle.nemo_laws.specs.Holds.{Holds}
 use Rattle.nemo_laws.specs.Legal.{Faultless}
+use Rattle.nemo_laws.specs.Written.{IsFromCommit, block_rows, written}
 use Rattle.nemo_replay.specs.StageStates.{ready}
 use Rattle.nemo_replay.specs.StageRun.{IsOneStage, first_stage, solo_log, tasks_in}
-use Rattle.nemo_laws.specs.Written.{IsFromCommit, block_rows, written}
 use Rattle.nemo_replay.proofs.Computed.{line_clean}
 use Rattle.nemo_replay.proofs.Logs.{turns}
 use Rattle.nemo_replay.proofs.OneStage.{clean_below, count, stage_plan}

@@ -8,8 +8,8 @@ use Rattle.nemo_ir.specs.Along.{below}
 use Rattle.nemo_core.specs.State.{start, fresh_task, fresh_blocks}
 use Rattle.nemo_core.specs.declared.event.HeldBy.{HeldBy}
 use Rattle.nemo_plan.specs.Line.{line_graph, line_vertex}
-use Rattle.nemo_replay.proofs.Counted.{map_same, map_at_below, replicate_map}
 use Rattle.nemo_replay.specs.StageStates.{from_attempt, block_after, blocks_after, ready}
+use Rattle.nemo_replay.proofs.Counted.{map_same, map_at_below, replicate_map}
 
 ---- the start
 

@@ -7,12 +7,12 @@ ghost use Rattle.nemo_ir.specs.Along.{below};
 ghost use Rattle.nemo_ir.specs.Line.{IsLine};
 ghost use Rattle.nemo_ir.specs.Uniform.{first_tasks, is_uniform};
 ghost use Rattle.nemo_laws.specs.Done.{IsDoneRun};
-ghost use Rattle.nemo_replay.specs.StageRun.{IsOneStage, solo_log, task_rows, tasks_in, turn};
 ghost use Rattle.nemo_laws.specs.Written.{written};
 ghost use Rattle.nemo_plan.specs.Form.{graph};
-ghost use Rattle.nemo_replay.specs.Ready.{end_name, one_sink, ready_core};
 ghost use Rattle.nemo_value.specs.Order.{record_cmp};
 ghost use Rattle.nemo_value.specs.Sorting.{sorted};
+ghost use Rattle.nemo_replay.specs.StageRun.{IsOneStage, solo_log, task_rows, tasks_in, turn};
+ghost use Rattle.nemo_replay.specs.Ready.{end_name, one_sink, ready_core};
 
 use crate::compute::run_task;
 use crate::turn::{Run, keeps, launch, slot_of, take};

@@ -10,13 +10,13 @@ use Rattle.nemo_ir.specs.Valid.{Valid}
 use Rattle.nemo_ir.specs.declared.dag.IrDag.{IrDag}
 use Rattle.nemo_job.specs.Sinks.{job_rows}
 use Rattle.nemo_laws.specs.Done.{IsDoneRun}
-use Rattle.nemo_replay.specs.StageRun.{solo_log, tasks_in}
 use Rattle.nemo_laws.specs.Written.{written}
 use Rattle.nemo_plan.specs.Form.{PlanForm}
 use Rattle.nemo_policy.proofs.ChainMain.{chain_main}
 use Rattle.nemo_policy.specs.Main.{HasMainPorts}
-use Rattle.nemo_replay.specs.declared.single.RunEnd.{RunEnd}
 use Rattle.nemo_value.specs.declared.record.SinkRows.{SinkRows}
+use Rattle.nemo_replay.specs.StageRun.{solo_log, tasks_in}
+use Rattle.nemo_replay.specs.declared.single.RunEnd.{RunEnd}
 use Rattle.nemo_top.specs.Bundles.{dag_of, plan_of}
 use Rattle.nemo_top.specs.Ends.{IsSoloDone}
 use Rattle.nemo_top.specs.Served.{IsRunnable}

@@ -6,11 +6,11 @@ use Rattle.nemo_ir.specs.Valid.{Valid, FirstFailure}
 use Rattle.nemo_ir.specs.declared.dag.IrDag.{IrDag}
 use Rattle.nemo_job.specs.Sinks.{job_faults, job_rows}
 use Rattle.nemo_laws.specs.Done.{IsDoneRun}
-use Rattle.nemo_replay.specs.StageRun.{solo_log, tasks_in}
 use Rattle.nemo_laws.specs.Written.{written}
 use Rattle.nemo_report.specs.Texts.{sinks_lines, text_of}
 use Rattle.nemo_transform.specs.Gives.{Row}
 use Rattle.nemo_value.specs.declared.expr.Kind.{Kind}
+use Rattle.nemo_replay.specs.StageRun.{solo_log, tasks_in}
 use Rattle.nemo_top.specs.Bundles.{dag_of, plan_of}
 use Rattle.nemo_top.specs.Statuses.{Alone, accepted_line, last_lines}
 use Rattle.nemo_top.specs.declared.word.Command.{Command}

@@ -1,8 +1,8 @@
 use Rattle.std.proofs.Common.{◌≡◌, ◌∙◌, sym, subst, ◌≤◌, Some, IfOk, length}
 use Rattle.std.specs.Prelude.{IsSome}
 use Rattle.nemo_replay.specs.StageRun.{IsOneStage}
-use Rattle.nemo_replay.proofs.OneStage.{stage_plan}
 use Rattle.nemo_replay.specs.Ready.{end_name, one_sink}
+use Rattle.nemo_replay.proofs.OneStage.{stage_plan}
 use Rattle.nemo_replay.proofs.Runs.{ended_sinks, ended_written, has_end, may_finish, on_ok, runs_well, start_core}
 use Rattle.nemo_replay.proofs.single.run_on.Goals as goal
 
