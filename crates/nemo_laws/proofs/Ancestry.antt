@@ -7,7 +7,7 @@ use Rattle.nemo_base.proofs.Finding.{same_item}
 use Rattle.nemo_ir.specs.Rewrites.{Leads, here, on}
 use Rattle.nemo_ir.specs.declared.dag.IrVertex.{IrVertex}
 use Rattle.nemo_ir.proofs.Places.{got}
-use Rattle.nemo_core.specs.State.{State, reads_by, reads_of}
+use Rattle.nemo_core.specs.State.{State, reads_by}
 use Rattle.nemo_core.specs.Step.{is_sealed}
 use Rattle.nemo_plan.specs.Form.{PlanForm}
 use Rattle.nemo_plan.specs.Over.{is_of_stage}
@@ -77,4 +77,4 @@ module _ (p : PlanForm) (g : TaskGraph) (wired : IsWired p g) where
       ]
     where
       go : {other : ℕ} (next : Stands g s other w) → is_sealed s other ≡ true → (next.row.stage ≡ stage) ⊎ (is_sealed s next.row.stage ≡ true)
-      go next sealed = elim next.either [ | inl own ↦ inr (ap (is_sealed s) own ∙ sealed) | inr yet ↦ inr yet ]
+      go next sealed = elim next.either [ inl own ↦ inr (ap (is_sealed s) own ∙ sealed) | inr yet ↦ inr yet ]

@@ -1,5 +1,5 @@
 -- What holds of attempts and held blocks under some cuts holds under others that agree on all that they depend on.
-use Rattle.std.proofs.Common.{arith, ◌≡◌, ◌∙◌, ap, sym, subst, refl, ℕ, ◌<◌, ◌≤◌, Bool, true, false, cond, List, [], ◌∷◌, length, map, slice_get, Option, Some, None, inl, inr}
+use Rattle.std.proofs.Common.{◌≡◌, ◌∙◌, ap, sym, refl, ℕ, ◌<◌, Bool, true, false, cond, List, [], ◌∷◌, length, map, slice_get, Some, inl, inr}
 use Rattle.std.proofs.lemmas.Option.{slice_get_within}
 use Rattle.nemo_base.specs.declared.graph.Read.{Read}
 use Rattle.nemo_base.specs.declared.graph.TaskGraph.{TaskGraph}
@@ -9,7 +9,6 @@ use Rattle.nemo_base.specs.declared.id.TaskId.{TaskId}
 use Rattle.nemo_value.specs.Counted.{below}
 use Rattle.nemo_value.specs.Members.{In}
 use Rattle.nemo_value.proofs.MemberLists.{in_flat, map_in}
-use Rattle.nemo_ir.specs.Part.{part}
 use Rattle.nemo_ir.specs.Rewrites.{Leads}
 use Rattle.nemo_ir.specs.Valid.{Valid}
 use Rattle.nemo_ir.proofs.LocalParts.{parts_local}
@@ -19,10 +18,9 @@ use Rattle.nemo_core.specs.Step.{is_sealed}
 use Rattle.nemo_plan.specs.Form.{PlanForm}
 use Rattle.nemo_plan.specs.Wiring.{IsWired}
 use Rattle.nemo_plan.proofs.Memberships.{at_in}
-use Rattle.nemo_base.specs.Sound.{is_sound}
 use Rattle.nemo_laws.specs.Data.{Ran, cuts_at, given_by, gives_of}
 use Rattle.nemo_laws.specs.Recomputation.{AreReadsSealed, IsPart, RunsRightly, block_of, named, named_in, tasks_in}
-use Rattle.nemo_laws.proofs.Ancestry.{LiesIn, lies_in}
+use Rattle.nemo_laws.proofs.Ancestry.{lies_in}
 use Rattle.nemo_laws.proofs.ReadBlocks.{reads}
 
 -- the attempts of one list stand in another at their places
@@ -90,6 +88,7 @@ module _ (p : PlanForm) (valid : Valid p.flat p.dag) (g : TaskGraph) (wired : Is
     gives = λ v own.
         let at = lies_in p g wired task.stage v own in
         is.gives v own ∙ parts_local p.flat p.dag valid (cuts_at s) (cuts_at t) v (agree v at.row at.there at.is) task.index;
+    others = is.others;
     cuts = λ u v own leads. let at = lies_in p g wired task.stage v own in is.cuts u v own leads ∙ agree v at.row at.there at.is u leads;
     reads = λ n b e.
         let h = is.reads n b e in

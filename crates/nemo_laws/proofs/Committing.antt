@@ -1,6 +1,6 @@
 -- A commit: the blocks that it makes are parts, and the stage that it seals reads sealed stages alone.
-use Rattle.std.proofs.Common.{◌≡◌, ◌∙◌, ap, sym, subst, refl, ℕ, zero, suc, ◌<◌, ◌||◌, Bool, true, false, List, [], ◌∷◌, ◌++◌, length, map, slice_get, slice_index_or, Option, Some, None, inl, inr}
-use Rattle.std.specs.List.{flat_map, list_any}
+use Rattle.std.proofs.Common.{◌≡◌, ◌∙◌, ap, sym, subst, refl, ℕ, zero, suc, ◌<◌, Bool, true, false, List, [], ◌∷◌, ◌++◌, length, map, slice_get, slice_index_or, Some, None, inl, inr}
+use Rattle.std.specs.List.{list_any}
 use Rattle.std.proofs.lemmas.Bool.{eqb-true, or_cases, or_left, or_right}
 use Rattle.std.proofs.lemmas.Option.{get_or_from_slice_get, slice_get_within}
 use Rattle.nemo_base.specs.Places.{item_at, map_at, passes, row_at}
@@ -10,7 +10,7 @@ use Rattle.nemo_base.specs.declared.graph.TaskGraph.{TaskGraph}
 use Rattle.nemo_base.specs.declared.graph.VertexRow.{VertexRow}
 use Rattle.nemo_base.specs.declared.id.TaskId.{TaskId}
 use Rattle.nemo_base.specs.Settings.{SettingsForm}
-use Rattle.nemo_base.proofs.Finding.{any_found, find, passes_at, passing, same_item}
+use Rattle.nemo_base.proofs.Finding.{any_found, find, passing, same_item}
 use Rattle.nemo_base.proofs.SoundGraphs.{vertex_sound}
 use Rattle.nemo_value.specs.Members.{In}
 use Rattle.nemo_transform.specs.Brought.{all_faults}
@@ -21,7 +21,7 @@ use Rattle.nemo_ir.proofs.Places.{got}
 use Rattle.nemo_core.specs.Kept.{IsKept}
 use Rattle.nemo_core.specs.State.{State, is_number, runs}
 use Rattle.nemo_core.specs.Step.{after, all_decided, home_of, is_sealed, refusal, sealed_by}
-use Rattle.nemo_core.specs.declared.event.Event.TheVariants.{Commit, Launch}
+use Rattle.nemo_core.specs.declared.event.Event.TheVariants.{Commit}
 use Rattle.nemo_core.specs.declared.event.HeldBy.{HeldBy}
 use Rattle.nemo_core.specs.declared.row.Attempt.{Attempt}
 use Rattle.nemo_core.specs.declared.row.TaskRow.{TaskRow}
@@ -30,7 +30,7 @@ use Rattle.nemo_core.proofs.Changed.{at_back, get_map_at, on}
 use Rattle.nemo_plan.specs.Form.{PlanForm}
 use Rattle.nemo_plan.specs.Wiring.{IsWired}
 use Rattle.nemo_plan.proofs.Memberships.{below_in}
-use Rattle.nemo_laws.specs.Data.{Given, Ran, cuts_at, given_by, gives_of}
+use Rattle.nemo_laws.specs.Data.{Ran, cuts_at, given_by, gives_of}
 use Rattle.nemo_laws.specs.Legal.{Faultless, all_vertices}
 use Rattle.nemo_laws.specs.Recomputation.{IsRightOn, RunsRightly}
 use Rattle.nemo_laws.proofs.Ancestry.{of_stage, vertex_there}
@@ -105,7 +105,7 @@ module _ (p : PlanForm) (valid : Valid p.flat p.dag) (g : TaskGraph) (wired : Is
       let by : h.attempt ≡ attempt = ap (λ x. x.attempt) m.is ∙ home_attempt k s.incs attempt i m.row.home m.own in
       let own : h.attempt ≡ m.own.number = by ∙ sym number in
       let gave : given_by ran h.attempt v ≡ part p.flat p.dag (cuts_at s) v i
-            = ap (λ n. given_by ran n v) own ∙ ap (λ o. gives_of o v) r.number ∙ r.gives v (of_stage p g wired m.row.stage v m.row m.named refl) in
+      = ap (λ n. given_by ran n v) own ∙ ap (λ o. gives_of o v) r.number ∙ r.gives v (of_stage p g wired m.row.stage v m.row m.named refl) in
       let u = vertex_there p g wired v m.row m.named in
       let inside = below_in (length p.dag.vertices) v (slice_get_within p.dag.vertices v u.0 u.1) in
       let none = none_of (given_by ran attempt) (all_vertices p) v honest inside in

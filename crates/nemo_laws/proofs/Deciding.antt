@@ -1,7 +1,7 @@
 -- A stage of which every skewed vertex is decided stays so.
-use Rattle.std.proofs.Common.{◌≡◌, ◌∙◌, ap, sym, refl, ℕ, ◌==◌, ◌&&◌, not, Bool, true, false, cond, List, slice_get, Option, Some, None, inl, inr}
-use Rattle.std.proofs.lemmas.Bool.{and_from, and_parts, both_ways, cases_Bool, eq-eqb, not-false, not-true}
-use Rattle.nemo_base.specs.Places.{any_at, passes}
+use Rattle.std.proofs.Common.{◌≡◌, refl, ℕ, ◌==◌, ◌&&◌, not, Bool, true, false, slice_get, Some}
+use Rattle.std.proofs.lemmas.Bool.{and_from, and_parts, both_ways, eq-eqb, not-true}
+use Rattle.nemo_base.specs.Places.{any_at}
 use Rattle.nemo_base.specs.declared.graph.TaskGraph.{TaskGraph}
 use Rattle.nemo_base.specs.declared.graph.VertexRow.{VertexRow}
 use Rattle.nemo_base.proofs.Finding.{any_at_found, find_at}

@@ -1,7 +1,7 @@
 -- A launch: the attempt gives its parts, since what it reads was held rightly.
-use Rattle.std.proofs.Common.{arith, ◌≡◌, ◌∙◌, ap, sym, subst, refl, ℕ, zero, suc, ◌+◌, ◌<◌, Bool, true, false, List, [], ◌∷◌, ◌++◌, length, slice_get, slice_index_or, Option, Some, None, inl, inr}
+use Rattle.std.proofs.Common.{arith, ◌≡◌, ◌∙◌, ap, sym, subst, refl, ℕ, zero, suc, ◌+◌, ◌<◌, true, false, List, [], ◌∷◌, ◌++◌, cond, length, map, take, slice_get, slice_index_or, Option, Some, None, inl, inr}
 use Rattle.std.proofs.lemmas.Bool.{cases_lt}
-use Rattle.std.proofs.lemmas.List.{length-append}
+use Rattle.std.proofs.lemmas.List.{get_or_past, length-append}
 use Rattle.std.proofs.lemmas.Option.{slice_get_within}
 use Rattle.nemo_base.specs.declared.annotation.Pattern.{Pattern}
 use Rattle.nemo_base.specs.declared.annotation.Pattern.TheVariants.{OneToOne, Broadcast, Hash, Spread}
@@ -11,25 +11,30 @@ use Rattle.nemo_base.specs.declared.id.TaskId.{TaskId}
 use Rattle.nemo_base.specs.Settings.{SettingsForm}
 use Rattle.nemo_base.proofs.Finding.{same_item}
 use Rattle.nemo_value.specs.Members.{In}
+use Rattle.nemo_transform.specs.Brought.{nothing}
+use Rattle.nemo_ir.specs.Along.{along}
 use Rattle.nemo_ir.specs.Flat.{IsFlat}
-use Rattle.nemo_ir.specs.Nodes.{Feed, Node, nodes}
-use Rattle.nemo_ir.specs.Part.{part}
+use Rattle.nemo_ir.specs.Nodes.{Node, nodes, origin}
+use Rattle.nemo_ir.specs.Part.{Parts, done_by, part}
 use Rattle.nemo_ir.specs.Valid.{Valid}
+use Rattle.nemo_ir.specs.Value.{ByNumber}
+use Rattle.nemo_ir.proofs.Entries.{along_at, along_before, along_length}
+use Rattle.nemo_ir.proofs.Places.{got}
 use Rattle.nemo_core.specs.Kept.{IsKept}
 use Rattle.nemo_core.specs.State.{State, all_held, blocks_read, held_at, holder, reads_by, reads_of}
 use Rattle.nemo_core.specs.Step.{after, all_decided, refusal}
-use Rattle.nemo_core.specs.declared.event.Event.TheVariants.{Commit, Launch}
+use Rattle.nemo_core.specs.declared.event.Event.TheVariants.{Launch}
 use Rattle.nemo_core.specs.declared.row.Attempt.{Attempt}
 use Rattle.nemo_core.proofs.Launchable.{launch_allowed, launch_only}
 use Rattle.nemo_core.proofs.TaskRows.{Starts}
 use Rattle.nemo_plan.specs.Form.{PlanForm}
-use Rattle.nemo_plan.specs.Over.{Tells, TellsAll, is_of_stage}
+use Rattle.nemo_plan.specs.Over.{Tells, TellsAll, is_of_stage, over_edge, over_step, part_over}
 use Rattle.nemo_plan.specs.Stages.{stages_of}
 use Rattle.nemo_plan.specs.Wiring.{IsWired, read_by}
 use Rattle.nemo_plan.proofs.OverParts.{over_is}
 use Rattle.nemo_laws.specs.Data.{Ran, cuts_at, given_by, held_parts, parallelism_in, task_gives}
 use Rattle.nemo_laws.specs.Recomputation.{IsRightOn, RunsRightly}
-use Rattle.nemo_laws.proofs.Ancestry.{LiesIn, lies_in, of_stage, row_there}
+use Rattle.nemo_laws.proofs.Ancestry.{lies_in, of_stage, row_there}
 use Rattle.nemo_laws.proofs.CarriedParts.{Extends, part_still}
 use Rattle.nemo_laws.proofs.ReadBlocks.{held_narrow, held_read, held_some, held_wide}
 use Rattle.nemo_laws.proofs.Stepping.{stepped}
@@ -41,7 +46,7 @@ more_attempts [] new a r h = cc
 more_attempts (x ∷ xs) new zero r h = h
 more_attempts (x ∷ xs) new (suc a) r h = more_attempts xs new a r h
 
-last_attempt : (ran : List Ran) (new : Ran) → slice_get (ran ++ new ∷ []) (length ran) ≡ Some new
+pub last_attempt : (ran : List Ran) (new : Ran) → slice_get (ran ++ new ∷ []) (length ran) ≡ Some new
 last_attempt [] new = refl
 last_attempt (x ∷ xs) new = last_attempt xs new
 
@@ -67,6 +72,26 @@ pub record IsLaunched (p : PlanForm) (g : TaskGraph) (ran : List Ran) (s : State
   pub reads : new.reads ≡ blocks_read g s t
   pub cuts : new.cuts ≡ cuts_at s
   pub gives : new.gives ≡ task_gives p ran s t
+
+---- a task at vertices of other stages
+
+-- what a task gives there, whatever others say of what it reads
+nothing_else : (p : PlanForm) (cuts : ℕ → List ℕ) (outside : ℕ → Parts) (t : TaskId) (v : ℕ) → is_of_stage (stages_of p.flat p.dag) t.stage v ≡ false → part_over p cuts outside t v ≡ nothing
+nothing_else p cuts outside t v other = elim (cases_lt v (length ns)) [
+  | inl less ↦
+      let node = got ns v less in
+      let made = map (over_edge (stages_of p.flat p.dag) t cuts outside (take v (along step [] ns)) node.0.parallelism) node.0.feeds in
+      along_at step ns v node.0 nothing node.1
+      ∙ ap (λ n. cond (is_of_stage (stages_of p.flat p.dag) t.stage n) (done_by (origin p.dag n) node.0.parallelism t.index node.0.deed made) nothing) (along_before step ns v node.0 node.1)
+      ∙ ap (λ b. cond b (done_by (origin p.dag v) node.0.parallelism t.index node.0.deed made) nothing) other
+  | inr past ↦ let size : length (along step [] ns) ≡ length ns = along_length step ns in get_or_past (along step [] ns) v nothing (omega arith)
+]
+  where
+    ns : List Node
+    ns = nodes p.flat.transforms p.dag
+
+    step : List ByNumber → Node → ByNumber
+    step = over_step p (stages_of p.flat p.dag) t cuts outside
 
 module _ (p : PlanForm) (fine : IsFlat p.flat) (valid : Valid p.flat p.dag) (g : TaskGraph) (wired : IsWired p g) (k : SettingsForm) (taken : ℕ) (s : State) (ran : List Ran) (kept : IsKept g k taken s) (right : IsRightOn p g ran s) where
   module _ (t : TaskId) (all : all_held (blocks_read g s t) ≡ true) where
@@ -120,11 +145,14 @@ module _ (p : PlanForm) (fine : IsFlat p.flat) (valid : Valid p.flat p.dag) (g :
       number = last_attempt ran new;
       task = is.task;
       gives = λ v own. ap (λ (f : ℕ → _). f v) is.gives ∙ launched_gives v own ∙ ap (λ c. part p.flat p.dag c v t.index) (sym cuts);
+      others = λ v other. ap (λ (f : ℕ → _). f v) is.gives ∙ nothing_else p (cuts_at s) (held_parts (nodes p.flat.transforms p.dag) ran s) t v other;
       cuts = λ w v own leads. ap (λ (f : ℕ → List ℕ). f w) (is.cuts ∙ sym cuts);
       reads = λ n b e.
-          let h = held_read g wired.sound k s kept.tables t all n b e in
-          (h.0, ap (λ l. slice_get l n) is.reads ∙ h.1,
-          part_still p valid g wired ran s (ran ++ new ∷ []) u (more_attempts ran new) h.0.attempt b.vertex b.task (λ w leads. ap (λ (f : ℕ → List ℕ). f w) (sym cuts)) (right.held b.vertex b.task h.0 h.2));
+          let h = held_read g wired.sound k s kept.tables t all n b e in (
+            h.0,
+            ap (λ l. slice_get l n) is.reads ∙ h.1,
+            part_still p valid g wired ran s (ran ++ new ∷ []) u (more_attempts ran new) h.0.attempt b.vertex b.task (λ w leads. ap (λ (f : ℕ → List ℕ). f w) (sym cuts)) (right.held b.vertex b.task h.0 h.2),
+          );
       sealed = λ r row m there.
           let h = held_some g wired.sound k s kept.tables t all r row m there in
           ap (λ l. slice_index_or l row.stage false) seals ∙ right.sealed r.vertex h.0 h.1 row h.2 there;

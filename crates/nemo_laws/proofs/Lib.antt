@@ -1,10 +1,17 @@
 pub mod Ancestry
+pub mod Answered
 pub mod CarriedParts
 pub mod Committing
 pub mod Deciding
+pub mod Faulted
+pub mod FaultsOfTasks
+pub mod Histories
 pub mod Launching
 pub mod LossesKept
+pub mod ReachedSinks
 pub mod ReadBlocks
 pub mod Recomputing
 pub mod Recuts
+pub mod SinkBlocks
+pub mod SinksByName
 pub mod Stepping

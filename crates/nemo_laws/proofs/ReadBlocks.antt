@@ -1,5 +1,5 @@
 -- The blocks that a task reads, by their names, where each is held.
-use Rattle.std.proofs.Common.{arith, ◌≡◌, ◌∙◌, ap, sym, subst, refl, ℕ, zero, suc, ◌+◌, ◌<◌, ◌≤◌, Bool, true, false, cond, List, [], ◌∷◌, ◌++◌, length, map, slice_get, Option, Some, None, inl, inr}
+use Rattle.std.proofs.Common.{arith, ◌≡◌, ◌∙◌, ap, sym, subst, refl, ℕ, suc, ◌+◌, ◌<◌, ◌≤◌, Bool, true, false, cond, List, [], ◌∷◌, ◌++◌, length, map, slice_get, Option, Some, None, inl, inr}
 use Rattle.std.specs.Prelude.{is_some}
 use Rattle.std.specs.List.{flat_map}
 use Rattle.nemo_base.specs.Needed.{blocks_of, made_by}
@@ -23,7 +23,7 @@ use Rattle.nemo_core.specs.State.{State, all_held, blocks_read, flat, held_at, r
 use Rattle.nemo_core.specs.declared.event.HeldBy.{HeldBy}
 use Rattle.nemo_core.proofs.Changed.{get_map, on}
 use Rattle.nemo_core.proofs.KeptTables.{blocks_length, has_all}
-use Rattle.nemo_plan.proofs.Memberships.{StandsAt, below_in, in_at}
+use Rattle.nemo_plan.proofs.Memberships.{below_in, in_at}
 use Rattle.nemo_laws.specs.Recomputation.{block_of, named, named_in, tasks_in}
 
 next : (k i : ℕ) → suc k + i ≡ k + suc i

@@ -1,5 +1,5 @@
 -- What is computed again is what was lost: at the start, through each event, and along every legal log.
-use Rattle.std.proofs.Common.{arith, ◌≡◌, ◌∙◌, ap, sym, subst, refl, ℕ, zero, suc, ◌+◌, Bool, true, false, List, [], ◌∷◌, ◌++◌, length, map, replicate, slice_get, slice_index_or, not, Option, Some, None}
+use Rattle.std.proofs.Common.{◌≡◌, ◌∙◌, ap, sym, refl, ℕ, zero, suc, ◌+◌, true, false, List, [], ◌∷◌, ◌++◌, length, map, replicate, slice_get, slice_index_or, not, Some, None}
 use Rattle.std.proofs.lemmas.List.{length-append}
 use Rattle.nemo_base.specs.Places.{any_at}
 use Rattle.nemo_base.specs.declared.graph.TaskGraph.{TaskGraph}
@@ -20,11 +20,12 @@ use Rattle.nemo_core.proofs.Launchable.{launch_only}
 use Rattle.nemo_plan.specs.Form.{PlanForm, graph}
 use Rattle.nemo_plan.specs.Wiring.{IsWired}
 use Rattle.nemo_plan.proofs.Wires.{graph_wired}
-use Rattle.nemo_laws.specs.Data.{Ran, cuts_at, cuts_in, launched_as, ran_from, ran_of, state_of, with_attempt}
-use Rattle.nemo_laws.specs.Legal.{IsHonest, Legal, LegalFrom}
+use Rattle.nemo_laws.specs.Data.{Ran, cuts_at, cuts_in, launched_as, ran_from, with_attempt}
+use Rattle.nemo_laws.specs.Legal.{IsHonest, LegalFrom}
 use Rattle.nemo_laws.specs.Recomputation.{IsRight, IsRightOn, RecomputationLaw}
+use Rattle.nemo_laws.proofs.CarriedParts.{Extends}
 use Rattle.nemo_laws.proofs.Committing.{commit_step}
-use Rattle.nemo_laws.proofs.Launching.{launch_step}
+use Rattle.nemo_laws.proofs.Launching.{last_attempt, launch_step, more_attempts}
 use Rattle.nemo_laws.proofs.Recuts.{decided_on, repartitioned}
 use Rattle.nemo_laws.proofs.Stepping.{assigned, stepped}
 
@@ -119,12 +120,38 @@ counted p g k s ran Starved same = same
 counted p g k s ran (Drop block) same = same
 counted p g k s ran Finish same = same
 
+-- an attempt stays where it stands
+still_there : (p : PlanForm) (s : State) (ran : List Ran) (e : Event) → Extends ran (with_attempt p s ran e)
+still_there p s ran (Launch attempt t slot reads) a r h = more_attempts ran (launched_as p ran s t slot) a r h
+still_there p s ran (Commit attempt) a r h = h
+still_there p s ran (Repeat attempt) a r h = h
+still_there p s ran (GiveBack attempt) a r h = h
+still_there p s ran (Evict slot) a r h = h
+still_there p s ran (Repartition v cuts) a r h = h
+still_there p s ran (Ignored v cuts) a r h = h
+still_there p s ran (Decide v cuts) a r h = h
+still_there p s ran (Fault attempt v kind rec) a r h = h
+still_there p s ran (Spent task) a r h = h
+still_there p s ran Starved a r h = h
+still_there p s ran (Drop block) a r h = h
+still_there p s ran Finish a r h = h
+
+pub stays_there : (p : PlanForm) (k : SettingsForm) (s : State) (ran : List Ran) (log : List Event) → Extends ran (ran_from p k s ran log)
+stays_there p k s ran [] a r h = h
+stays_there p k s ran (e ∷ es) a r h = stays_there p k (after (graph p) k s e) (with_attempt p s ran e) es a r (still_there p s ran e a r h)
+
 named_along : (p : PlanForm) (k : SettingsForm) (s : State) (ran : List Ran) (before later : List Event) (a : ℕ) (t : TaskId) (slot : ℕ) (reads : List ℕ) → length ran ≡ s.launches
     → LegalFrom p k s ran (before ++ Launch a t slot reads ∷ later)
     → (a ≡ length (ran_from p k s ran before)) × (reads ≡ map holder (blocks_read (graph p) (run_on (graph p) k s before) t))
+    × (slice_get (ran_from p k s ran (before ++ Launch a t slot reads ∷ later)) a ≡ Some (launched_as p (ran_from p k s ran before) (run_on (graph p) k s before) t slot))
 named_along p k s ran [] later a t slot reads same legal =
     let names = (launch_only (graph p) k s a t slot reads legal.0).0 in
-    (names.number ∙ sym same, names.names)
+    let new = launched_as p ran s t slot in
+    let number = names.number ∙ sym same in (
+      number,
+      names.names,
+      stays_there p k (after (graph p) k s (Launch a t slot reads)) (ran ++ new ∷ []) later a new (ap (slice_get (ran ++ new ∷ [])) number ∙ last_attempt ran new),
+    )
 named_along p k s ran (e ∷ es) later a t slot reads same legal =
     named_along p k (after (graph p) k s e) (with_attempt p s ran e) es later a t slot reads (counted p (graph p) k s ran e same) legal.2
 

@@ -1,17 +1,16 @@
 -- A change of the cuts of one vertex leaves what doesn't stand on them.
-use Rattle.std.proofs.Common.{◌≡◌, ◌∙◌, ap, sym, subst, refl, ℕ, ◌==◌, not, Bool, true, false, cond, List, [], map, slice_get, slice_index_or, if◌then◌else◌, Option, Some, None, inl, inr}
+use Rattle.std.proofs.Common.{◌≡◌, ◌∙◌, ap, sym, refl, ℕ, ◌==◌, not, Bool, true, false, cond, List, [], slice_get, slice_index_or, if◌then◌else◌, Option, Some, None, inl, inr}
 use Rattle.std.proofs.lemmas.Bool.{both_ways, cases_Bool, eq-eqb, eqb-true, not-true}
-use Rattle.nemo_base.specs.Places.{item_at, map_at, passes, row_at}
+use Rattle.nemo_base.specs.Places.{map_at, passes, row_at}
 use Rattle.nemo_base.specs.declared.graph.TaskGraph.{TaskGraph}
 use Rattle.nemo_base.specs.declared.graph.VertexRow.{VertexRow}
 use Rattle.nemo_base.specs.declared.id.TaskId.{TaskId}
 use Rattle.nemo_base.specs.Settings.{SettingsForm}
 use Rattle.nemo_base.proofs.Finding.{passes_at, passing, same_item}
-use Rattle.nemo_ir.specs.Rewrites.{Leads}
 use Rattle.nemo_ir.specs.Valid.{Valid}
 use Rattle.nemo_core.specs.Kept.{IsKept}
 use Rattle.nemo_core.specs.State.{State, task_at}
-use Rattle.nemo_core.specs.Step.{after, all_decided, conditions, decided, idle, is_decided, is_sealed, is_skewed, is_stage_of, recut, refusal}
+use Rattle.nemo_core.specs.Step.{after, all_decided, conditions, decided, idle, is_sealed, is_skewed, is_stage_of, recut, refusal}
 use Rattle.nemo_core.specs.declared.event.Event.{Event}
 use Rattle.nemo_core.specs.declared.event.Event.TheVariants.{Commit, Decide, Launch, Repartition}
 use Rattle.nemo_core.specs.declared.row.Attempt.{Attempt}
@@ -19,15 +18,15 @@ use Rattle.nemo_core.specs.declared.row.CutsRow.{CutsRow}
 use Rattle.nemo_core.specs.declared.row.TaskRow.{TaskRow}
 use Rattle.nemo_core.proofs.Allowed.{are_met}
 use Rattle.nemo_core.proofs.Changed.{get_map_at, item_row, map_back, on}
-use Rattle.nemo_core.proofs.TaskRows.{Starts, idle_if}
+use Rattle.nemo_core.proofs.TaskRows.{idle_if}
 use Rattle.nemo_plan.specs.Form.{PlanForm}
 use Rattle.nemo_plan.specs.Wiring.{IsWired}
 use Rattle.nemo_laws.specs.Data.{Ran, cuts_at, cuts_in}
 use Rattle.nemo_laws.specs.Recomputation.{AreReadsSealed, IsRightOn}
 use Rattle.nemo_laws.proofs.Ancestry.{AreClosed, Stands, ancestor}
-use Rattle.nemo_laws.proofs.CarriedParts.{Agree, AgreeOn, Carries}
+use Rattle.nemo_laws.proofs.CarriedParts.{AgreeOn}
 use Rattle.nemo_laws.proofs.Deciding.{DecidedStays, decided_still, not_of_decided}
-use Rattle.nemo_laws.proofs.Stepping.{Takes, stepped}
+use Rattle.nemo_laws.proofs.Stepping.{stepped}
 
 -- the cuts of one vertex are others, and no row of another vertex changes
 pub record IsRecut (s t : State) (w : ℕ) : Type 0 where
@@ -66,7 +65,7 @@ module _ (s t : State) (w : ℕ) (c : IsRecut s t w) where
         go : (stands : Stands g s stage u) → u ≡ w → ⊥
         go stands same =
             let is_row : stands.row.stage ≡ row.stage = ap (λ r. r.stage) (same_item stands.row row (sym stands.there ∙ ap (slice_get g.vertices) same ∙ there)) in
-            elim stands.either [ | inl own ↦ differs (sym is_row ∙ own) | inr sealed ↦ unsealed (ap (is_sealed s) (sym is_row) ∙ sealed) ]
+            elim stands.either [ inl own ↦ differs (sym is_row ∙ own) | inr sealed ↦ unsealed (ap (is_sealed s) (sym is_row) ∙ sealed) ]
 
     pub recut_sealed : (stage : ℕ) → is_sealed s stage ≡ true → AgreeOn p g s t stage
     recut_sealed stage sealed = recut_agrees stage (λ same. unsealed (ap (is_sealed s) same ∙ sealed)) (closed stage sealed)
@@ -146,6 +145,6 @@ module _ (p : PlanForm) (valid : Valid p.flat p.dag) (g : TaskGraph) (wired : Is
       recut_step (Decide w cuts) w v.item none (record { make = decided w cuts; is = refl; other = decided_is w cuts; decided = decided_keeps w cuts }) v.there
       (λ sealed. undecided (right.settled v.item.stage sealed)) refl refl (λ a is. cc) (λ a t slot reads is. cc)
       (λ t now old a there runs was_there was own.
-        let r = right.running t old a was_there was in
-        let all = right.decided a.number r.launch r.number in
-        undecided (ap (all_decided g s) (own ∙ ap (λ x. x.stage) (sym r.task)) ∙ all))
+      let r = right.running t old a was_there was in
+      let all = right.decided a.number r.launch r.number in
+      undecided (ap (all_decided g s) (own ∙ ap (λ x. x.stage) (sym r.task)) ∙ all))

@@ -1,5 +1,5 @@
 -- What a step has to show so that all stays right.
-use Rattle.std.proofs.Common.{arith, ◌≡◌, ◌∙◌, ap, sym, subst, refl, ℕ, suc, ◌+◌, ◌<◌, ◌≤◌, Bool, true, false, List, [], ◌∷◌, length, map, slice_get, Option, Some, None, inl, inr}
+use Rattle.std.proofs.Common.{arith, ◌≡◌, ◌∙◌, ap, sym, refl, ℕ, suc, ◌<◌, true, List, length, slice_get, Option, Some, None}
 use Rattle.std.proofs.lemmas.List.{length-map}
 use Rattle.std.proofs.lemmas.Option.{slice_get_within}
 use Rattle.nemo_base.specs.Places.{item_at, row_at}
@@ -14,7 +14,7 @@ use Rattle.nemo_core.specs.Kept.{AllCutsFit, HasTables, IsKept}
 use Rattle.nemo_core.specs.State.{State, fresh_blocks, held_at, start, task_at}
 use Rattle.nemo_core.specs.Step.{after, all_decided, is_sealed, refusal}
 use Rattle.nemo_core.specs.declared.event.Event.{Event}
-use Rattle.nemo_core.specs.declared.event.Event.TheVariants.{Commit, Launch}
+use Rattle.nemo_core.specs.declared.event.Event.TheVariants.{Commit}
 use Rattle.nemo_core.specs.declared.event.HeldBy.{HeldBy}
 use Rattle.nemo_core.specs.declared.row.Attempt.{Attempt}
 use Rattle.nemo_core.specs.declared.row.TaskRow.{TaskRow}

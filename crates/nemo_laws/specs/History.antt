@@ -1,6 +1,6 @@
 -- The answer is right: what holds of every legal log that ends.
 use Rattle.std.specs.Prelude.{◌≡◌, ℕ, List, [], ◌∷◌, ◌++◌}
-use Rattle.nemo_base.specs.Settings.{AreInRange, SettingsForm}
+use Rattle.nemo_base.specs.Settings.{SettingsForm}
 use Rattle.nemo_value.specs.Members.{In}
 use Rattle.nemo_value.specs.declared.expr.Kind.{Kind}
 use Rattle.nemo_transform.specs.Gives.{Row}
@@ -21,7 +21,7 @@ pub record IsAnswer (p : PlanForm) (k : SettingsForm) (log : List Event) : Type 
 
 pub record HistoryLaw : Type 0 where
   -- a legal log that ends in Finish has the answer
-  pub done : (p : PlanForm) (k : SettingsForm) (before : List Event) → IsFlat p.flat → Valid p.flat p.dag → AreInRange k
+  pub done : (p : PlanForm) (k : SettingsForm) (before : List Event) → IsFlat p.flat → Valid p.flat p.dag
       → Legal p k (before ++ Finish ∷ []) → IsAnswer p k (before ++ Finish ∷ [])
   -- the fault of one that ends in a fault is a fault of the flat job that reaches a sink, named as it names it
   pub fault : (p : PlanForm) (k : SettingsForm) (before : List Event) (a x : ℕ) (kind : Kind) (rec : Row) → IsFlat p.flat → Valid p.flat p.dag

@@ -1,5 +1,5 @@
 -- Which logs are made of holds: what one call of the master adds to a log.
-use Rattle.std.specs.Prelude.{◌≡◌, ◌⊎◌, ◌<◌, ℕ, ◌==◌, ◌&&◌, not, Bool, true, false, List, [], ◌∷◌, ◌++◌, length, filter, map, slice_get, is_none, Option, Some, None, if◌then◌else◌}
+use Rattle.std.specs.Prelude.{◌≡◌, ◌<◌, ℕ, ◌==◌, ◌&&◌, not, Bool, true, false, List, [], ◌∷◌, ◌++◌, length, filter, map, slice_get, is_none, Option, Some, None, if◌then◌else◌}
 use Rattle.std.specs.List.{flat_map, list_all}
 use Rattle.nemo_base.specs.Places.{map_at, passes}
 use Rattle.nemo_base.specs.declared.graph.TaskGraph.{TaskGraph}

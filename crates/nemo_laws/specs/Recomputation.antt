@@ -1,13 +1,14 @@
 -- What is computed again is what was lost: what holds of the data along every legal log.
-use Rattle.std.specs.Prelude.{◌≡◌, ◌<◌, ℕ, true, List, [], ◌∷◌, ◌++◌, length, map, slice_get, Option, Some, None, if◌then◌else◌}
+use Rattle.std.specs.Prelude.{◌≡◌, ◌<◌, ℕ, true, false, List, [], ◌∷◌, ◌++◌, length, map, slice_get, Option, Some, None, if◌then◌else◌}
 use Rattle.std.specs.List.{flat_map}
-use Rattle.nemo_base.specs.Settings.{AreInRange, SettingsForm}
+use Rattle.nemo_base.specs.Settings.{SettingsForm}
 use Rattle.nemo_base.specs.declared.graph.Read.{Read}
 use Rattle.nemo_base.specs.declared.graph.TaskGraph.{TaskGraph}
 use Rattle.nemo_base.specs.declared.graph.VertexRow.{VertexRow}
 use Rattle.nemo_base.specs.declared.id.BlockId.{BlockId}
 use Rattle.nemo_base.specs.declared.id.TaskId.{TaskId}
 use Rattle.nemo_value.specs.Members.{In}
+use Rattle.nemo_transform.specs.Brought.{nothing}
 use Rattle.nemo_ir.specs.Along.{below}
 use Rattle.nemo_ir.specs.Flat.{IsFlat}
 use Rattle.nemo_ir.specs.Part.{part}
@@ -24,10 +25,10 @@ use Rattle.nemo_core.specs.declared.row.TaskRow.{TaskRow}
 use Rattle.nemo_plan.specs.Form.{PlanForm, graph}
 use Rattle.nemo_plan.specs.Over.{is_of_stage}
 use Rattle.nemo_plan.specs.Stages.{stages_of}
-use Rattle.nemo_laws.specs.Data.{Ran, cuts_at, given_by, ran_of, state_of, with_attempt}
+use Rattle.nemo_laws.specs.Data.{Ran, cuts_at, given_by, launched_as, ran_of, state_of, with_attempt}
 use Rattle.nemo_laws.specs.Legal.{IsHonest, Legal}
 
--- what attempt a, which was launched, gave at vertex v is the part of task i there under the present cuts, and that part has no fault
+-- attempt a was launched, what it gave at vertex v is the part of task i there under the present cuts, and that part has no fault
 pub record IsPart (p : PlanForm) (ran : List Ran) (s : State) (a v i : ℕ) : Type 0 where
   pub launched : a < length ran
   pub is : given_by ran a v ≡ part p.flat p.dag (cuts_at s) v i
@@ -59,6 +60,8 @@ pub record RunsRightly (p : PlanForm) (g : TaskGraph) (ran : List Ran) (s : Stat
   pub task : launch.task ≡ t
   -- at each vertex of its stage it gives the part of its task under the present cuts, with the faults
   pub gives : (v : ℕ) → is_of_stage (stages_of p.flat p.dag) t.stage v ≡ true → launch.gives v ≡ part p.flat p.dag (cuts_at s) v t.index
+  -- and at each other vertex nothing
+  pub others : (v : ℕ) → is_of_stage (stages_of p.flat p.dag) t.stage v ≡ false → launch.gives v ≡ nothing
   -- it was launched under cuts that agree with the present ones on the vertices of its stage and their ancestors
   pub cuts : (u v : ℕ) → is_of_stage (stages_of p.flat p.dag) t.stage v ≡ true → Leads p.dag u v → launch.cuts u ≡ cuts_at s u
   -- each block that it reads was held, by an attempt that gave the part of it
@@ -66,7 +69,7 @@ pub record RunsRightly (p : PlanForm) (g : TaskGraph) (ran : List Ran) (s : Stat
       → (h : HeldBy) × (slice_get launch.reads n ≡ Some (Some h)) × IsPart p ran s h.attempt b.vertex b.task
   pub sealed : AreReadsSealed g s t.stage
 
--- what holds of a plan with this graph after each event of a legal log
+-- so it is of a plan whose graph this is
 pub record IsRightOn (p : PlanForm) (g : TaskGraph) (ran : List Ran) (s : State) : Type 0 where
   pub count : length ran ≡ s.launches
   pub assignment : IsAssignment p.dag (cuts_at s)
@@ -81,6 +84,7 @@ pub record IsRightOn (p : PlanForm) (g : TaskGraph) (ran : List Ran) (s : State)
   -- no attempt of a stage with an undecided skewed vertex was launched
   pub decided : (a : ℕ) (r : Ran) → slice_get ran a ≡ Some r → all_decided g s r.task.stage ≡ true
 
+-- what holds after each event of a legal log
 abbrev pub IsRight : PlanForm → List Ran → State → Type 0
 IsRight p ran s = IsRightOn p (graph p) ran s
 
@@ -94,7 +98,8 @@ pub record RecomputationLaw : Type 0 where
   -- so it is after every legal log
   pub legal : (p : PlanForm) (k : SettingsForm) (log : List Event) → IsFlat p.flat → Valid p.flat p.dag → Legal p k log
       → IsRight p (ran_of p k log) (state_of (graph p) k log)
-  -- and each launch has the next number and names those who hold what its task reads
+  -- and each launch has the next number, names those who hold what its task reads, and stands in the attempts as it was launched
   pub names : (p : PlanForm) (k : SettingsForm) (before later : List Event) (a : ℕ) (t : TaskId) (slot : ℕ) (reads : List ℕ)
       → Legal p k (before ++ Launch a t slot reads ∷ later)
       → (a ≡ length (ran_of p k before)) × (reads ≡ map holder (blocks_read (graph p) (state_of (graph p) k before) t))
+      × (slice_get (ran_of p k (before ++ Launch a t slot reads ∷ later)) a ≡ Some (launched_as p (ran_of p k before) (state_of (graph p) k before) t slot))
