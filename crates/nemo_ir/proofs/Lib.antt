@@ -7,6 +7,7 @@ pub mod FlatPlaces
 pub mod Lines
 pub mod LocalParts
 pub mod Origins
+pub mod Outlines
 pub mod Places
 pub mod PortEdges
 pub mod Reps

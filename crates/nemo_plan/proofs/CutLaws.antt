@@ -34,7 +34,7 @@ module _ (flat : FlatForm) (dag : IrDag) (valid : Valid flat dag) where
   pub level_dag : IsLevel dag
   level_dag = record { rises = λ i e there. (edge_rises flat dag valid i e there).low; level = level_edge }
 
-  next_stage : (done : List ℕ) (u : IrVertex) → slice_get dag.vertices (length done) ≡ Some u → IsCutSoFar dag done → IsCutSoFar dag (done ++ stage_step flat dag done u ∷ [])
+  pub next_stage : (done : List ℕ) (u : IrVertex) → slice_get dag.vertices (length done) ≡ Some u → IsCutSoFar dag done → IsCutSoFar dag (done ++ stage_step flat dag done u ∷ [])
   next_stage done u at so = elim (step_cases flat dag done u) [
     | inl joined ↦ join_step dag done level_dag so u at (stage_step flat dag done u) joined
     | inr begun ↦ subst (λ s. IsCutSoFar dag (done ++ s ∷ [])) (sym begun) (begin_step dag done level_dag so u at)

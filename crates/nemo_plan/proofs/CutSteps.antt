@@ -249,6 +249,16 @@ module _ (dag : IrDag) (stages : List ℕ) (level : IsLevel dag) (so : IsCutSoFa
     | inr over ↦ let same : count ≡ t = omega arith in record { place = length stages; is = push_new stages count ∙ ap Some same }
   ]
 
+  pub begin_forward : IsForward dag.edges (stages ++ count_stages stages ∷ []) (so.order ++ count_stages stages ∷ [])
+  begin_forward =
+      let size : count_stages begun ≡ suc count = count_begun stages in
+      record {
+        count = last_size ∙ ap suc so.forward.count ∙ sym size;
+        inside = λ a l. last_inner a (subst (λ n. a < n) size l);
+        outside = λ a l. last_outside a (subst (λ n. n ≤ a) size l);
+        rises = last_rises;
+      }
+
   pub begin_step : IsCutSoFar dag begun
   begin_step =
       let up : suc (length stages) ≡ length begun = longer count in
@@ -256,12 +266,7 @@ module _ (dag : IrDag) (stages : List ℕ) (level : IsLevel dag) (so : IsCutSoFa
       let size : count_stages begun ≡ suc count = count_begun stages in
       record {
         order = last;
-        forward = record {
-          count = last_size ∙ ap suc so.forward.count ∙ sym size;
-          inside = λ a l. last_inner a (subst (λ n. a < n) size l);
-          outside = λ a l. last_outside a (subst (λ n. n ≤ a) size l);
-          rises = last_rises;
-        };
+        forward = begin_forward;
         few = omega arith;
         filled = λ t l. begun_filled t (subst (λ n. t < n) size l);
         alike = begun_alike;

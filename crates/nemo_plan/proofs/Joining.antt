@@ -156,7 +156,7 @@ module _ (dag : IrDag) (stages : List ℕ) (v : ℕ) (u : IrVertex) (s : ℕ) wh
           let at = edge_found dag.edges v port e is in
           joined_by e at.place at.there at.to (from ∙ ap Some both.1) (subst (λ k. joins_by dag stages v u.class k e ≡ true) both.1 both.0)
 
-first_of : (dag : IrDag) (stages : List ℕ) (v : ℕ) (u : IrVertex) (s : ℕ) (ports : List ℕ) → first_joined (joined_at dag stages v u.class) ports ≡ Some s → IsJoined dag stages v u s
+pub first_of : (dag : IrDag) (stages : List ℕ) (v : ℕ) (u : IrVertex) (s : ℕ) (ports : List ℕ) → first_joined (joined_at dag stages v u.class) ports ≡ Some s → IsJoined dag stages v u s
 first_of dag stages v u s [] h = cc
 first_of dag stages v u s (p ∷ ps) h = go (joined_at dag stages v u.class p) refl h (first_of dag stages v u s ps)
   where

@@ -1,11 +1,11 @@
 -- The plan of a line with a uniform DAG.
-use Rattle.std.proofs.Common.{arith, ◌≡◌, ◌∙◌, ap, sym, subst, refl, ℕ, zero, suc, ◌+◌, ◌≤◌, ◌&&◌, List, [], ◌∷◌, length, map, get_or, slice_get, true, Some, nat_le, nat_lt}
+use Rattle.std.proofs.Common.{arith, ◌≡◌, ◌∙◌, ap, sym, subst, refl, ℕ, zero, suc, ◌+◌, ◌≤◌, ◌&&◌, List, [], ◌∷◌, length, slice_get, true, Some, nat_le, nat_lt}
 use Rattle.std.proofs.lemmas.Bool.{leb-true}
 use Rattle.std.proofs.lemmas.Option.{slice_get_within}
 use Rattle.std.specs.Cmp.{first_so, second_so}
 use Rattle.nemo_base.specs.Places.{map_at}
 use Rattle.nemo_transform.specs.declared.transform.Transform.{Transform}
-use Rattle.nemo_ir.specs.Along.{below, passes}
+use Rattle.nemo_ir.specs.Along.{passes}
 use Rattle.nemo_ir.specs.Flat.{FlatForm, IsFlat}
 use Rattle.nemo_ir.specs.Line.{IsLine}
 use Rattle.nemo_ir.specs.Nodes.{Node, deed_or, feeds_from, kinds_in, node_of, nodes, nodes_from}
@@ -16,17 +16,12 @@ use Rattle.nemo_ir.specs.declared.dag.IrEdge.{IrEdge}
 use Rattle.nemo_ir.specs.declared.dag.IrVertex.{IrVertex}
 use Rattle.nemo_ir.specs.declared.flat.FlatVertex.{FlatVertex}
 use Rattle.nemo_plan.specs.Graph.{vertices_of}
-use Rattle.nemo_base.specs.Sound.{is_sound}
-use Rattle.nemo_base.specs.declared.graph.TaskGraph.{TaskGraph}
-use Rattle.nemo_plan.specs.Kept.{IsPlan, stage_lists}
-use Rattle.nemo_plan.specs.Line.{line_graph}
 use Rattle.nemo_plan.specs.LinePlan.{IsLinePlan, line_node}
 use Rattle.nemo_plan.specs.Stages.{count_stages, stages_of}
 use Rattle.nemo_ir.proofs.Places.{from_none, same_item}
 use Rattle.nemo_plan.proofs.Cutting.{all_of, one_stage, stages_are}
 use Rattle.nemo_plan.proofs.Graphs.{graph_is}
 use Rattle.nemo_plan.proofs.Lists.{zeros}
-use Rattle.nemo_plan.proofs.SoundLine.{line_sound}
 use Rattle.nemo_plan.proofs.Standing.{Standing, standing, vertices_size}
 
 ---- the vertices
@@ -106,22 +101,3 @@ line_plan flat dag f line valid h =
       vertices_are = ap (λ ss. vertices_of ss 0) cut ∙ all_of m;
       graph_is = graph_is flat dag f line valid h some one;
     }
-
--- so the stages and the graph of a line are those of its plan
-pub plan_kept : (flat : FlatForm) (dag : IrDag) → IsFlat flat → IsLine flat → Valid flat dag → is_uniform dag ≡ true → (stages : List (List ℕ)) (graph : TaskGraph)
-    → stages ≡ below (length dag.vertices) ∷ [] → graph ≡ line_graph (length dag.vertices) (first_tasks dag.vertices) → IsPlan flat dag stages graph
-plan_kept flat dag f line valid h stages graph cut is =
-    let p = line_plan flat dag f line valid h in
-    let lists : stage_lists flat dag ≡ below (length dag.vertices) ∷ [] = ap (λ n. map (vertices_of (stages_of flat dag)) (below n)) p.one_stage ∙ ap (λ vs. vs ∷ []) p.vertices_are in
-    record {
-      job = f;
-      valid = valid;
-      cut = cut ∙ sym lists;
-      is = is ∙ sym p.graph_is;
-      sound = ap is_sound is ∙ line_sound (length dag.vertices) (first_tasks dag.vertices) p.some p.tasks p.few;
-    }
-
--- the parallelism of the first vertex, as code reads it
-pub first_parallelism : (us : List IrVertex) (d : IrVertex) → d.parallelism ≡ 0 → (get_or us 0 d).parallelism ≡ first_tasks us
-first_parallelism [] d h = h
-first_parallelism (u ∷ us) d h = refl

@@ -1,6 +1,6 @@
 -- Lists whose items all pass a test or none does, and lists of numbers.
-use Rattle.std.proofs.Common.{arith, ◌≡◌, ◌∙◌, ap, sym, refl, ℕ, zero, suc, ◌+◌, ◌-◌, ◌<◌, ◌≤◌, ◌==◌, ◌||◌, List, [], ◌∷◌, ◌++◌, length, map, filter, cond, slice_get, Bool, true, false, replicate, Option, Some, None, ◌≢◌, eq-eqb, inl, inr}
-use Rattle.std.proofs.lemmas.Bool.{cases_lt, ne_eqb, or_from}
+use Rattle.std.proofs.Common.{arith, ◌≡◌, ◌∙◌, ap, sym, refl, ℕ, zero, suc, ◌+◌, ◌-◌, ◌<◌, ◌≤◌, ◌||◌, List, [], ◌∷◌, ◌++◌, length, map, filter, cond, slice_get, Bool, true, false, replicate, Option, Some, None}
+use Rattle.std.proofs.lemmas.Bool.{or_from}
 use Rattle.std.proofs.lemmas.List.{length-map, replicate-append-replicate}
 use Rattle.std.proofs.lemmas.Option.{slice_get-map, slice_get_within}
 use Rattle.std.specs.Cmp.Derive.{both_true}
@@ -105,13 +105,6 @@ left_counted i n h =
     ap (counted i) left ∙ ap (λ k. i ∷ counted k (n - (i + 1))) up
 
 -- a number below n is the last one or is not, said in two ways
-pub same_end : (v n : ℕ) → v < n → (v == n - 1) ≡ (suc v == n)
-same_end v n h = elim (cases_lt (suc v) n) [
-  | inl less ↦ (let a : v ≢ n - 1 = omega arith in let b : suc v ≢ n = omega arith in ne_eqb v (n - 1) a ∙ sym (ne_eqb (suc v) n b))
-  | inr more ↦ (let a : v ≡ n - 1 = omega arith in let b : suc v ≡ n = omega arith in eq-eqb v (n - 1) a ∙ sym (eq-eqb (suc v) n b))
-]
-
--- what is made of each number below n
 pub below_count : {X : Type 0} (f : ℕ → X) (n : ℕ) → length (map f (below n)) ≡ n
 below_count f n = length-map (below n) f ∙ counted_length 0 n
 

@@ -33,13 +33,13 @@ up_to_greatest (k ∷ ks) n (inr m) =
     omega arith
 
 module _ (flat : FlatForm) (dag : IrDag) (stages order : List ℕ) (forward : IsForward dag.edges stages order) where
-  abbrev one_more : (ℕ → ℕ) → Read → ℕ
+  abbrev pub one_more : (ℕ → ℕ) → Read → ℕ
   one_more rank r = suc (of_stage rank (stage_at stages r.vertex))
 
-  read_rises : (s : ℕ) (r : Read) (is : IsReadFrom dag stages s r) → place order is.before < place order s
+  pub read_rises : (s : ℕ) (r : Read) (is : IsReadFrom dag stages s r) → place order is.before < place order s
   read_rises s r is = forward.rises is.place is.before s is.edge is.there is.from is.to is.differs
 
-  read_from : (s : ℕ) (r : Read) (is : IsReadFrom dag stages s r) → stage_at stages r.vertex ≡ Some is.before
+  pub read_from : (s : ℕ) (r : Read) (is : IsReadFrom dag stages s r) → stage_at stages r.vertex ≡ Some is.before
   read_from s r is = ap (λ (q : Read). stage_at stages q.vertex) is.is ∙ is.from
 
   -- one turn more changes nothing once there were more turns than stages before

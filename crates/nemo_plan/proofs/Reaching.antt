@@ -1,11 +1,12 @@
 -- Along an order of the stages in which every edge between stages goes forward, steps enough reach all that can be reached.
-use Rattle.std.proofs.Common.{arith, ◌≡◌, ◌∙◌, ap, sym, subst, refl, ℕ, zero, suc, ◌+◌, ◌<◌, ◌≤◌, ◌==◌, ◌&&◌, true, List, length, slice_get, Option, Some, None, inl, inr, eq-eqb}
+use Rattle.std.proofs.Common.{arith, ◌≡◌, ◌∙◌, ap, sym, subst, refl, ℕ, zero, suc, ◌+◌, ◌<◌, ◌≤◌, ◌==◌, ◌&&◌, true, List, length, Option, Some, None, inl, inr, eq-eqb}
 use Rattle.std.specs.Prelude.{◌↔◌}
 use Rattle.std.proofs.lemmas.Bool.{and_from, cases_eq, eqb-true, or_cases, or_left, or_right}
 use Rattle.std.specs.Cmp.{first_so, second_so}
 use Rattle.std.specs.List.{list_any}
 use Rattle.nemo_ir.specs.Along.{passes}
 use Rattle.nemo_ir.specs.declared.dag.IrEdge.{IrEdge}
+pub use Rattle.nemo_plan.specs.Order.{IsForward}
 use Rattle.nemo_plan.specs.Reach.{Reach, here, on}
 use Rattle.nemo_plan.specs.Stages.{count_stages, is_reached, joins_stages, reached_in, stage_at}
 use Rattle.nemo_ir.proofs.Places.{list_any-at}
@@ -48,13 +49,6 @@ module _ (es : List IrEdge) (stages : List ℕ) where
   reached_self : (n s : ℕ) → reached_in es stages n s s ≡ true
   reached_self zero s = eq-eqb s s refl
   reached_self (suc n) s = or_left (reached_in es stages n s s) (list_any (λ m. reached_in es stages n s m && list_any (joins_stages stages m s) es) stages) (reached_self n s)
-
--- in this order of the stages every edge between two of them goes forward
-pub record IsForward (es : List IrEdge) (stages order : List ℕ) : Type 0 where
-  pub count : length order ≡ count_stages stages
-  pub inside : (s : ℕ) → s < count_stages stages → place order s < length order
-  pub outside : (s : ℕ) → count_stages stages ≤ s → place order s ≡ length order
-  pub rises : (i s t : ℕ) (e : IrEdge) → slice_get es i ≡ Some e → stage_at stages e.from ≡ Some s → stage_at stages e.to ≡ Some t → (s ≡ t → ⊥) → place order s < place order t
 
 module _ (es : List IrEdge) (stages order : List ℕ) (forward : IsForward es stages order) where
   -- what can be reached stands no earlier

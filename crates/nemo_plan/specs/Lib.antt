@@ -4,8 +4,11 @@ pub mod Graph
 pub mod Kept
 pub mod Line
 pub mod LinePlan
+pub mod Making
+pub mod Order
 pub mod Over
 pub mod Rank
+pub mod Ranking
 pub mod Reach
 pub mod Stages
 pub mod Wiring

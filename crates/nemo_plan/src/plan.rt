@@ -1,17 +1,17 @@
 ghost use Rattle.std.specs.Prelude.{◌≡◌, ◌<◌, true, IfOk};
 ghost use Rattle.nemo_base.specs.Sound.{is_sound};
 ghost use Rattle.nemo_ir.specs.Flat.{IsFlat};
-ghost use Rattle.nemo_ir.specs.Line.{IsLine};
 ghost use Rattle.nemo_ir.specs.Rewrites.{Computes, IsLocal};
-ghost use Rattle.nemo_ir.specs.Uniform.{is_uniform};
 ghost use Rattle.nemo_ir.specs.Valid.{Valid};
 ghost use Rattle.nemo_plan.specs.Form as form;
-ghost use Rattle.nemo_plan.specs.Graph.{vertices_of};
+ghost use Rattle.nemo_plan.specs.Graph.{graph_of, vertices_of};
+ghost use Rattle.nemo_plan.specs.Kept.{stage_lists};
 ghost use Rattle.nemo_plan.specs.Stages.{count_stages, stages_of};
 
-use crate::line::cut;
+use crate::cut::{Making, cut};
+use crate::graph::graph;
 use nemo_base::TaskGraph;
-use nemo_ir::{FlatJob, IrDag};
+use nemo_ir::{DagIndex, FlatJob, IrDag};
 use nemo_value::{List, NoMemory};
 use std::alloc::Global;
 use std::marker::Model;
@@ -42,16 +42,14 @@ impl Model for Plan {
 }
 
 impl Plan {
-    /// The plan of a valid DAG. For now the flat job is a line and the DAG is uniform, so that there is one stage.
+    /// The plan of a valid DAG. Its time is close to linear in the vertices and edges.
     pub fn new(alloc: Global, flat: FlatJob, dag: IrDag) -> Result<Plan, NoMemory>
         requires valid { Valid flat dag }
-        requires line { IsLine flat }
-        requires uniform { is_uniform dag ≡ true }
         ensures plan { IfOk result (λ p. p ≡ record { flat = flat; dag = dag }) }
         ensures computes { IfOk result (λ p. Computes p.flat p.dag) }
         ensures local { IfOk result (λ p. IsLocal p.flat p.dag) }
     {
-        let (stages, graph) = cut(alloc, &flat, &dag)?;
+        let (stages, graph) = staged(alloc, &flat, &dag)?;
         Ok(Plan {
             flat,
             dag,
@@ -89,4 +87,21 @@ impl Plan {
     {
         &self.stages.as_slice()[number as usize]
     }
+}
+
+/// The vertices of each stage of a valid DAG, and the graph.
+fn staged(
+    alloc: Global,
+    flat: &FlatJob,
+    dag: &IrDag,
+) -> Result<(List<List<u32>>, TaskGraph), NoMemory>
+    requires { Valid flat.now dag.now }
+    ensures stages { IfOk result (λ both. both.0 ≡ stage_lists flat.now dag.now) }
+    ensures graph { IfOk result (λ both. both.1 ≡ graph_of flat.now dag.now) }
+{
+    let index = DagIndex::new(alloc, dag)?;
+    let made = cut(alloc, flat, &index)?;
+    let graph = graph(alloc, flat, &index, &made)?;
+    let Making { members, .. } = made;
+    Ok((List::from_vec(members), graph))
 }

@@ -5,6 +5,7 @@
 
 mod calls;
 mod parts;
+mod plans;
 mod report;
 mod splits;
 mod values;
@@ -46,6 +47,7 @@ fn run(rt: &impl Print, alloc: Global, row: &Value, tally: &mut Tally) -> io::Re
             let call = text(row, "call");
             tally.count(rt, call, splits::is_expected(alloc, call, row))
         }
+        "plan" => tally.count(rt, text(row, "name"), plans::is_expected(alloc, row)?),
         _ => tally.count(rt, text(row, "value"), values::is_expected(alloc, row)),
     }
 }

@@ -1,9 +1,5 @@
-use Rattle.nemo_top.proofs.Chains.{chain_line}
 use Rattle.nemo_top.proofs.Running.{faultless_plan, line_plan, ran, ran_rows}
 use Rattle.nemo_top.proofs.solo.run.Goals as goal
-
-pub new-requires-clause-line : goal.new-requires-clause-line
-new-requires-clause-line c = chain_line c.args.bundle c.requires.bundle.chain c.requires.bundle.flat
 
 pub returns-clause-done : goal.returns-clause-done
 returns-clause-done c =
