@@ -42,7 +42,7 @@ none_before : {X : Type 0} (xs ys : List X) → xs ++ ys ≡ [] → (xs ≡ []) 
 none_before [] ys h = (refl, h)
 none_before (x ∷ xs) ys h = cc
 
-none_of : (give : ℕ → ByNumber) (vs : List ℕ) (v : ℕ) → all_faults (map give vs) ≡ [] → In v vs → (give v).faults ≡ []
+pub none_of : (give : ℕ → ByNumber) (vs : List ℕ) (v : ℕ) → all_faults (map give vs) ≡ [] → In v vs → (give v).faults ≡ []
 none_of give [] v h m = absurd m
 none_of give (w ∷ ws) v h (inl e) = ap (λ x. (give x).faults) e ∙ (none_before (give w).faults (all_faults (map give ws)) h).0
 none_of give (w ∷ ws) v h (inr m) = none_of give ws v (none_before (give w).faults (all_faults (map give ws)) h).1 m

@@ -101,7 +101,7 @@ run_of s a h =
       number = eqb-true o.item.number a o.ok;
     }
 
-stage_there : (stages : List ℕ) (s v : ℕ) → is_of_stage stages s v ≡ true → stage_at stages v ≡ Some s
+pub stage_there : (stages : List ℕ) (s v : ℕ) → is_of_stage stages s v ≡ true → stage_at stages v ≡ Some s
 stage_there stages s v h = let o = passing (λ a. a == s) (stage_at stages v) h in o.there ∙ ap Some (eqb-true o.item s o.ok)
 
 module _ (p : PlanForm) (k : SettingsForm) (before : List Event) (fine : IsFlat p.flat) (valid : Valid p.flat p.dag)

@@ -76,7 +76,7 @@ pub record IsLaunched (p : PlanForm) (g : TaskGraph) (ran : List Ran) (s : State
 ---- a task at vertices of other stages
 
 -- what a task gives there, whatever others say of what it reads
-nothing_else : (p : PlanForm) (cuts : ℕ → List ℕ) (outside : ℕ → Parts) (t : TaskId) (v : ℕ) → is_of_stage (stages_of p.flat p.dag) t.stage v ≡ false → part_over p cuts outside t v ≡ nothing
+pub nothing_else : (p : PlanForm) (cuts : ℕ → List ℕ) (outside : ℕ → Parts) (t : TaskId) (v : ℕ) → is_of_stage (stages_of p.flat p.dag) t.stage v ≡ false → part_over p cuts outside t v ≡ nothing
 nothing_else p cuts outside t v other = elim (cases_lt v (length ns)) [
   | inl less ↦
       let node = got ns v less in

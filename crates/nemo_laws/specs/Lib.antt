@@ -1,8 +1,11 @@
 pub mod Data
 pub mod Done
 pub mod History
+pub mod HoldLaws
 pub mod Holds
 pub mod Legal
 pub mod Losses
 pub mod Recomputation
+pub mod Solo
+pub mod SoloLaws
 pub mod Written
