@@ -24,7 +24,7 @@ next k n P f = λ j low high. f j (omega arith) (omega arith)
 from_zero : (n : ℕ) (P : ℕ → Type 0) → ((j : ℕ) → j < n → P j) → Each 0 n P
 from_zero n P f = λ j low high. f j (omega arith)
 
-counted_append : (k a b : ℕ) → counted k (a + b) ≡ counted k a ++ counted (k + a) b
+pub counted_append : (k a b : ℕ) → counted k (a + b) ≡ counted k a ++ counted (k + a) b
 counted_append k zero b =
     let e : 0 + b ≡ b = omega arith in
     let f : k ≡ k + 0 = omega arith in

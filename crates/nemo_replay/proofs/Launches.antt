@@ -100,7 +100,7 @@ launch_after m n k i slot =
 abbrev pub machine_of : ℕ → ℕ → SettingsForm → ℕ → ℕ → Machine
 machine_of m n k i taken = record { graph = line_graph m n; settings = k; state = ready m n k i; taken = taken }
 
-done_refused : (m n : ℕ) (k : SettingsForm) (i j slot : ℕ) → 1 ≤ m → j < n → j < i → is_none (refusal (line_graph m n) k (ready m n k i) (Launch i (first_stage j) slot [])) ≡ false
+pub done_refused : (m n : ℕ) (k : SettingsForm) (i j slot : ℕ) → 1 ≤ m → j < n → j < i → is_none (refusal (line_graph m n) k (ready m n k i) (Launch i (first_stage j) slot [])) ≡ false
 done_refused m n k i j slot some lt before =
     fails_at (conditions (line_graph m n) k (ready m n k i) (Launch i (first_stage j) slot [])) 3 (ap not (unneeded m n k i j some lt before))
 

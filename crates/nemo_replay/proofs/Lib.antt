@@ -8,10 +8,8 @@ pub mod Refusals
 pub mod Runs
 pub mod SinkRows
 pub mod Slots
-pub mod SoloCommits
-pub mod SoloHolds
-pub mod SoloLegal
 pub mod SoloRuns
+pub mod SoloTurns
 pub mod States
 pub mod TaskParts
 pub mod Tasks

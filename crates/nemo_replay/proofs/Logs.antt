@@ -7,14 +7,13 @@ use Rattle.nemo_base.specs.Settings.{SettingsForm}
 use Rattle.nemo_ir.specs.Along.{below}
 use Rattle.nemo_core.specs.Run.{run_on}
 use Rattle.nemo_core.specs.State.{State, start}
-use Rattle.nemo_core.specs.Step.{after, over}
+use Rattle.nemo_core.specs.Step.{after}
 use Rattle.nemo_core.specs.declared.event.Event.{Event}
-use Rattle.nemo_core.specs.declared.event.Event.TheVariants.{Launch, Commit, Finish}
-use Rattle.nemo_core.specs.declared.event.Outcome.TheVariants.{Done}
+use Rattle.nemo_core.specs.declared.event.Event.TheVariants.{Commit}
 use Rattle.nemo_plan.specs.Line.{line_graph}
 use Rattle.nemo_laws.specs.Data.{state_of}
-use Rattle.nemo_replay.specs.StageRun.{first_stage, slot_of, solo_log, turn}
-use Rattle.nemo_replay.specs.StageStates.{busy, ready}
+use Rattle.nemo_replay.specs.StageRun.{slot_of, turn, turns}
+use Rattle.nemo_replay.specs.StageStates.{ready}
 use Rattle.nemo_replay.proofs.Commits.{commit_after}
 use Rattle.nemo_replay.proofs.Counted.{below_suc}
 use Rattle.nemo_replay.proofs.Launches.{launch_after}
@@ -28,10 +27,6 @@ run_on_append g k s (e ∷ es) fs = run_on_append g k (after g k s e) es fs
 turn_after : (m n : ℕ) (k : SettingsForm) (i : ℕ) → i < n → run_on (line_graph m n) k (ready m n k i) (turn k i) ≡ ready m n k (suc i)
 turn_after m n k i lt = ap (λ s. after (line_graph m n) k s (Commit i)) (launch_after m n k i (slot_of k i)) ∙ commit_after m n k i (slot_of k i) lt
 
--- the turns of the first tasks
-abbrev pub turns : SettingsForm → ℕ → List Event
-turns k i = flat_map (turn k) (below i)
-
 pub turns_more : (k : SettingsForm) (i : ℕ) → turns k (suc i) ≡ turns k i ++ turn k i
 turns_more k i = ap (flat_map (turn k)) (below_suc i) ∙ flat_map-append (turn k) (below i) (i ∷ [])
 
@@ -42,16 +37,3 @@ turns_state m n k (suc i) some le =
     ∙ run_on_append (line_graph m n) k (start (line_graph m n) k) (turns k i) (turn k i)
     ∙ ap (λ s. run_on (line_graph m n) k s (turn k i)) (turns_state m n k i some (omega arith))
     ∙ turn_after m n k i (omega arith)
-
--- once the next task is launched
-pub launched_state : (m n : ℕ) (k : SettingsForm) (i : ℕ) → 1 ≤ m → i < n → state_of (line_graph m n) k (turns k i ++ Launch i (first_stage i) (slot_of k i) [] ∷ []) ≡ busy m n k i (slot_of k i)
-launched_state m n k i some lt =
-    run_on_append (line_graph m n) k (start (line_graph m n) k) (turns k i) (Launch i (first_stage i) (slot_of k i) [] ∷ [])
-    ∙ ap (λ s. after (line_graph m n) k s (Launch i (first_stage i) (slot_of k i) [])) (turns_state m n k i some (omega arith))
-    ∙ launch_after m n k i (slot_of k i)
-
--- the whole log
-pub solo_state : (m n : ℕ) (k : SettingsForm) → 1 ≤ m → state_of (line_graph m n) k (solo_log k n) ≡ over Done (ready m n k n)
-solo_state m n k some =
-    run_on_append (line_graph m n) k (start (line_graph m n) k) (turns k n) (Finish ∷ [])
-    ∙ ap (over Done) (turns_state m n k n some (omega arith))

@@ -1,8 +1,8 @@
 -- The whole run on one thread: its start, its end, and its sinks.
-use Rattle.std.proofs.Common.{arith, ◌≡◌, ◌∙◌, ap, sym, subst, suc, ◌-◌, ◌≤◌, List, [], ◌∷◌, length, map, IfOk, OnOk, Some, None, Ok, Err, Result}
+use Rattle.std.proofs.Common.{arith, ◌≡◌, ◌∙◌, ap, sym, suc, ◌-◌, ◌≤◌, List, [], ◌∷◌, length, map, IfOk, OnOk, Some, None, Ok, Err, Result}
 use Rattle.std.specs.Prelude.{IsSome, is_some, option_and_then, option_map}
 use Rattle.std.specs.List.{flat_map}
-use Rattle.nemo_base.specs.Settings.{AreInRange, SettingsForm}
+use Rattle.nemo_base.specs.Settings.{SettingsForm}
 use Rattle.nemo_value.specs.Order.{record_cmp}
 use Rattle.nemo_value.specs.Sorting.{sorted}
 use Rattle.nemo_value.specs.declared.memory.NoMemory.{NoMemory}
@@ -16,7 +16,7 @@ use Rattle.nemo_ir.specs.Along.{below}
 use Rattle.nemo_ir.specs.Flat.{sink_name, transform_of}
 use Rattle.nemo_ir.proofs.Places.{got, same_item}
 use Rattle.nemo_value.specs.SinkOrder.{in_order}
-use Rattle.nemo_ir.specs.Meaning.{flat_faults, flat_rows}
+use Rattle.nemo_ir.specs.Meaning.{flat_rows}
 use Rattle.nemo_core.specs.Run.{refusal_in}
 use Rattle.nemo_core.specs.State.{Machine, start_machine}
 use Rattle.nemo_core.specs.declared.event.Event.{Event}
@@ -24,13 +24,14 @@ use Rattle.nemo_core.specs.declared.event.Event.TheVariants.{Finish}
 use Rattle.nemo_plan.specs.Form.{PlanForm, graph}
 use Rattle.nemo_plan.specs.Line.{line_graph}
 use Rattle.nemo_laws.specs.Written.{written}
-use Rattle.nemo_replay.specs.StageRun.{IsOneStage, solo_log, task_rows, tasks_in}
-use Rattle.nemo_replay.specs.Ready.{end_name, one_sink, ready_core}
+use Rattle.nemo_replay.specs.EndSink.{end_name, one_sink}
+use Rattle.nemo_replay.specs.StageRun.{IsOneStage, task_rows, tasks_in}
+use Rattle.nemo_replay.specs.StageStates.{ready_core}
 use Rattle.nemo_replay.proofs.Commits.{finish_allowed}
 use Rattle.nemo_replay.proofs.Computed.{task_rows_are}
 use Rattle.nemo_replay.proofs.OneStage.{count, rows_end, stage_plan}
 use Rattle.nemo_replay.proofs.SinkRows.{end_of, one_reached}
-use Rattle.nemo_replay.proofs.SoloRuns.{RunsWell, solo_runs}
+use Rattle.nemo_replay.proofs.SoloRuns.{RunsWell}
 use Rattle.nemo_replay.proofs.States.{start_ready}
 use Rattle.nemo_replay.proofs.Tasks.{line_part}
 use Rattle.nemo_replay.proofs.Turns.{core_is}
@@ -71,12 +72,8 @@ sinks_are p rows sinks o all one =
     ∙ ap (λ rs. record { name = name; rows = rs } ∷ []) (sorted_alike record_cmp record_strict (from_std _ _ (task_rows_are p o last (omega arith))))
     ∙ sym (ap (λ rs. in_order (map (λ r. record { name = r.name; rows = r.brought.rows }) rs)) (one_reached p o))
 
----- the law of the run
+---- the result of a call
 
-pub runs_well : (p : PlanForm) (k : SettingsForm) (log : List Event) → IsOneStage p → AreInRange k → flat_faults p.flat ≡ [] → log ≡ solo_log k (tasks_in p) → RunsWell p k log
-runs_well p k log o range clean is = subst (RunsWell p k) (sym is) (solo_runs p k o range clean)
-
--- the same of the result of a call
 pub ended_sinks : (p : PlanForm) (rows : List Row) (r : Result (List SinkRows) NoMemory) → IsOneStage p
     → rows ≡ flat_map (λ i. task_rows p.flat (tasks_in p) i p.flat.vertices []) (below (tasks_in p)) → IfOk r (λ sinks. Some sinks ≡ one_sink p.flat rows) → IfOk r (λ sinks. sinks ≡ flat_rows p.flat)
 ended_sinks p rows (Ok sinks) o all one = sinks_are p rows sinks o all one

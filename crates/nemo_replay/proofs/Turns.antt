@@ -18,13 +18,12 @@ use Rattle.nemo_core.specs.declared.event.Event.{Event}
 use Rattle.nemo_core.specs.declared.event.Event.TheVariants.{Launch, Commit}
 use Rattle.nemo_plan.specs.Form.{PlanForm}
 use Rattle.nemo_plan.specs.Line.{line_graph}
-use Rattle.nemo_replay.specs.StageStates.{busy, ready}
-use Rattle.nemo_replay.specs.StageRun.{IsOneStage, first_stage, slot_of, tasks_in, turn}
-use Rattle.nemo_replay.specs.Ready.{is_served, ready_core}
+use Rattle.nemo_replay.specs.StageRun.{IsOneStage, first_stage, is_served, slot_of, tasks_in, turn, turns}
+use Rattle.nemo_replay.specs.StageStates.{busy, ready, ready_core}
 use Rattle.nemo_replay.proofs.Commits.{commit_after, commit_allowed}
 use Rattle.nemo_replay.proofs.Counted.{below_suc}
 use Rattle.nemo_replay.proofs.Launches.{launch_after, launchable_next, machine_of}
-use Rattle.nemo_replay.proofs.Logs.{turns, turns_more}
+use Rattle.nemo_replay.proofs.Logs.{turns_more}
 use Rattle.nemo_replay.proofs.Slots.{slot_good}
 use Rattle.nemo_replay.proofs.OneStage.{count, stage_plan}
 

@@ -1,3 +1,3 @@
-pub mod Ready
+pub mod EndSink
 pub mod StageRun
 pub mod StageStates

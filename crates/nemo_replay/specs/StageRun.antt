@@ -1,13 +1,15 @@
 -- The run of a plan of one stage on one thread.
-use Rattle.std.specs.Prelude.{◌≡◌, ℕ, ◌+◌, ◌%◌, ◌==◌, true, List, [], ◌∷◌, ◌++◌, Option, Some, None, if◌then◌else◌}
+use Rattle.std.specs.Prelude.{◌≡◌, ℕ, ◌%◌, Bool, true, List, [], ◌∷◌, length, max, slice_index_or, Option, Some, None}
 use Rattle.std.specs.List.{flat_map}
 use Rattle.nemo_base.specs.declared.id.TaskId.{TaskId}
 use Rattle.nemo_base.specs.Settings.{SettingsForm}
+use Rattle.nemo_base.specs.declared.annotation.Class.TheVariants.{Transient}
 use Rattle.nemo_core.specs.declared.event.Event.{Event}
-use Rattle.nemo_core.specs.declared.event.Event.TheVariants.{Launch, Commit, Finish}
+use Rattle.nemo_core.specs.declared.event.Event.TheVariants.{Launch, Commit}
 use Rattle.nemo_transform.specs.Gives.{Row, answers, rows_in}
+use Rattle.nemo_transform.specs.Soundness.{is_sound}
 use Rattle.nemo_transform.specs.declared.transform.Transform.{Transform}
-use Rattle.nemo_ir.specs.Along.{below}
+use Rattle.nemo_ir.specs.Along.{below, passes}
 use Rattle.nemo_ir.specs.Flat.{FlatForm, IsFlat, transform_of}
 use Rattle.nemo_ir.specs.Line.{IsLine}
 use Rattle.nemo_ir.specs.Part.{dealt_to}
@@ -15,11 +17,11 @@ use Rattle.nemo_ir.specs.Uniform.{first_tasks, is_uniform}
 use Rattle.nemo_ir.specs.Valid.{Valid}
 use Rattle.nemo_ir.specs.declared.flat.FlatVertex.{FlatVertex}
 use Rattle.nemo_plan.specs.Form.{PlanForm}
+use Rattle.nemo_laws.specs.Solo.{fitting}
 
--- the slot of a launch: among the m slots that the tasks fit on, the one at place `launches so far modulo m`. That is a
--- transient one where there is one.
+-- the slot of a launch: among the slots that its task fits on, the one at the place of the launches so far, modulo their number
 abbrev pub slot_of : SettingsForm → ℕ → ℕ
-slot_of k launches = if k.transient == 0 then launches % k.reserved else k.reserved + launches % k.transient
+slot_of k launches = slice_index_or (fitting k Transient) (launches % max 1 (length (fitting k Transient))) 0
 
 abbrev pub first_stage : ℕ → TaskId
 first_stage i = record { stage = 0; index = i }
@@ -28,9 +30,9 @@ first_stage i = record { stage = 0; index = i }
 abbrev pub turn : SettingsForm → ℕ → List Event
 turn k i = Launch i (first_stage i) (slot_of k i) [] ∷ Commit i ∷ []
 
--- the log of all tasks
-abbrev pub solo_log : SettingsForm → ℕ → List Event
-solo_log k n = flat_map (turn k) (below n) ++ Finish ∷ []
+-- the turns of the first tasks
+abbrev pub turns : SettingsForm → ℕ → List Event
+turns k i = flat_map (turn k) (below i)
 
 -- the plan that a uniform DAG makes of a line, which is one stage
 pub record IsOneStage (p : PlanForm) : Type 0 where
@@ -42,6 +44,10 @@ pub record IsOneStage (p : PlanForm) : Type 0 where
 -- how many tasks the one stage has
 abbrev pub tasks_in : PlanForm → ℕ
 tasks_in p = first_tasks p.dag.vertices
+
+-- the vertex has a transform, which is sound
+abbrev pub is_served : FlatForm → FlatVertex → Bool
+is_served flat x = passes is_sound (transform_of flat x)
 
 -- what task i of n makes of the rows before a vertex
 abbrev pub rows_by : ℕ → ℕ → Option Transform → List Row → List Row

@@ -1,12 +1,14 @@
 -- The states of the run on one thread of a line that is one stage: m vertices with n tasks each.
-use Rattle.std.specs.Prelude.{ℕ, suc, ◌+◌, ◌==◌, nat_lt, Bool, List, [], ◌∷◌, map, replicate, Option, Some, None, if◌then◌else◌}
+use Rattle.std.specs.Prelude.{ℕ, suc, ◌+◌, ◌==◌, nat_lt, Bool, List, [], ◌∷◌, length, map, replicate, Option, Some, None, if◌then◌else◌}
 use Rattle.nemo_base.specs.Settings.{SettingsForm}
 use Rattle.nemo_ir.specs.Along.{below}
-use Rattle.nemo_core.specs.State.{State, fresh_cuts, fresh_task}
+use Rattle.nemo_core.specs.State.{Machine, State, fresh_cuts, fresh_task}
 use Rattle.nemo_core.specs.declared.event.HeldBy.{HeldBy}
 use Rattle.nemo_core.specs.declared.event.Outcome.TheVariants.{Going}
 use Rattle.nemo_core.specs.declared.row.TaskRow.{TaskRow}
+use Rattle.nemo_plan.specs.Form.{PlanForm, graph}
 use Rattle.nemo_plan.specs.Line.{line_graph}
+use Rattle.nemo_replay.specs.StageRun.{tasks_in}
 
 -- the master holds the block from attempt j
 abbrev pub from_attempt : ℕ → HeldBy
@@ -46,3 +48,7 @@ ready m n k i = record {
 -- after the launch of task i on a slot
 abbrev pub busy : ℕ → ℕ → SettingsForm → ℕ → ℕ → State
 busy m n k i slot = record (ready m n k i) { launches = suc i; tasks = map (task_while i slot) (below n) ∷ [] }
+
+-- the core between two turns; each took two events
+abbrev pub ready_core : PlanForm → SettingsForm → ℕ → Machine
+ready_core p k i = record { graph = graph p; settings = k; state = ready (length p.dag.vertices) (tasks_in p) k i; taken = i + i }

@@ -4,8 +4,7 @@ ghost use Rattle.nemo_ir.specs.Flat.{transform_of};
 ghost use Rattle.nemo_ir.specs.Part.{dealt_to};
 ghost use Rattle.nemo_transform.specs.Gives.{answers, rows_in};
 ghost use Rattle.nemo_transform.specs.Soundness.{is_sound};
-ghost use Rattle.nemo_replay.specs.StageRun.{rows_by, task_rows};
-ghost use Rattle.nemo_replay.specs.Ready.{is_served};
+ghost use Rattle.nemo_replay.specs.StageRun.{is_served, rows_by, task_rows};
 
 use nemo_ir::{FlatJob, FlatVertex, source_part};
 use nemo_transform::{Transform, apply};

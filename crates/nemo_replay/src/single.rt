@@ -7,12 +7,14 @@ ghost use Rattle.nemo_ir.specs.Along.{below};
 ghost use Rattle.nemo_ir.specs.Line.{IsLine};
 ghost use Rattle.nemo_ir.specs.Uniform.{first_tasks, is_uniform};
 ghost use Rattle.nemo_laws.specs.Done.{IsDoneRun};
+ghost use Rattle.nemo_laws.specs.Solo.{SoloRun};
 ghost use Rattle.nemo_laws.specs.Written.{written};
 ghost use Rattle.nemo_plan.specs.Form.{graph};
 ghost use Rattle.nemo_value.specs.Order.{record_cmp};
 ghost use Rattle.nemo_value.specs.Sorting.{sorted};
-ghost use Rattle.nemo_replay.specs.StageRun.{IsOneStage, solo_log, task_rows, tasks_in, turn};
-ghost use Rattle.nemo_replay.specs.Ready.{end_name, one_sink, ready_core};
+ghost use Rattle.nemo_replay.specs.EndSink.{end_name, one_sink};
+ghost use Rattle.nemo_replay.specs.StageRun.{IsOneStage, task_rows, tasks_in, turn, turns};
+ghost use Rattle.nemo_replay.specs.StageStates.{ready_core};
 
 use crate::compute::run_task;
 use crate::turn::{Run, keeps, launch, slot_of, take};
@@ -48,7 +50,7 @@ pub fn solo(
     requires script { script ≡ [] }
     ensures run { IfOk result (λ end. IsDoneRun plan.now settings [] end.log) }
     ensures outcome { IfOk result (λ end. end.outcome ≡ Outcome.Done) }
-    ensures log { IfOk result (λ end. end.log ≡ solo_log settings (tasks_in plan.now)) }
+    ensures turns { IfOk result (λ end. SoloRun plan.now settings [] end.log) }
     ensures committed { IfOk result (λ end. end.sinks ≡ written plan.now settings end.log) }
     ensures sinks { IfOk result (λ end. end.sinks ≡ flat_rows plan.now.flat) }
 {
@@ -89,7 +91,7 @@ fn run_on(
     requires empty { run.old.log.items ≡ [] }
     ensures run { OnOk result (IsDoneRun plan.now settings [] run.new.log.items) }
     ensures outcome { OnOk result (run.new.core.state.outcome ≡ Outcome.Done) }
-    ensures log { OnOk result (run.new.log.items ≡ solo_log settings (tasks_in plan.now)) }
+    ensures turns { OnOk result (SoloRun plan.now settings [] run.new.log.items) }
     ensures committed { IfOk result (λ sinks. sinks ≡ written plan.now settings run.new.log.items) }
     ensures sinks { IfOk result (λ sinks. sinks ≡ flat_rows plan.now.flat) }
 {
@@ -148,7 +150,7 @@ fn run_all(
     requires start { run.old.core ≡ ready_core plan.now settings 0 }
     requires empty { run.old.log.items ≡ [] }
     ensures core { OnOk result (run.new.core ≡ ready_core plan.now settings (tasks_in plan.now)) }
-    ensures log { OnOk result (run.new.log.items ++ Event.Finish ∷ [] ≡ solo_log settings (tasks_in plan.now)) }
+    ensures log { OnOk result (run.new.log.items ≡ turns settings (tasks_in plan.now)) }
     ensures rows { IfOk result (λ rows. rows.items ≡ flat_map (λ i. task_rows plan.now.flat (tasks_in plan.now) i plan.now.flat.vertices []) (below (tasks_in plan.now))) }
 {
     let mut rows = Vec::new(alloc);

@@ -14,6 +14,7 @@ use nemo_value::NoMemory;
 pub(crate) fn slot_of(settings: Settings, launches: u32) -> u32
     ensures { result ≡ spec.slot_of settings launches }
 {
+    keeps(settings);
     if settings.transient == 0 {
         launches % settings.reserved
     } else {

@@ -10,12 +10,12 @@ use Rattle.nemo_ir.specs.Valid.{Valid}
 use Rattle.nemo_ir.specs.declared.dag.IrDag.{IrDag}
 use Rattle.nemo_job.specs.Sinks.{job_rows}
 use Rattle.nemo_laws.specs.Done.{IsDoneRun}
+use Rattle.nemo_laws.specs.Solo.{SoloRun}
 use Rattle.nemo_laws.specs.Written.{written}
 use Rattle.nemo_plan.specs.Form.{PlanForm}
 use Rattle.nemo_policy.proofs.ChainMain.{chain_main}
 use Rattle.nemo_policy.specs.Main.{HasMainPorts}
 use Rattle.nemo_value.specs.declared.record.SinkRows.{SinkRows}
-use Rattle.nemo_replay.specs.StageRun.{solo_log, tasks_in}
 use Rattle.nemo_replay.specs.declared.single.RunEnd.{RunEnd}
 use Rattle.nemo_top.specs.Bundles.{dag_of, plan_of}
 use Rattle.nemo_top.specs.Ends.{IsSoloDone}
@@ -43,23 +43,23 @@ same_rows b runs = ap flat_rows runs.flat ∙ keeps_rows b.job runs.chain
 
 -- the run of its plan is that of the bundle
 pub ran_solo : (b : Bundle) (dag : IrDag) (log : List Event) (sinks : List SinkRows) → IsRunnable b → dag ≡ dag_of b → Valid b.flat dag
-    → IsDoneRun (record { flat = b.flat; dag = dag }) b.settings [] log → log ≡ solo_log b.settings (tasks_in (record { flat = b.flat; dag = dag }))
+    → IsDoneRun (record { flat = b.flat; dag = dag }) b.settings [] log → SoloRun (record { flat = b.flat; dag = dag }) b.settings [] log
     → sinks ≡ written (record { flat = b.flat; dag = dag }) b.settings log → sinks ≡ flat_rows b.flat → IsSoloDone b log
-ran_solo b dag log sinks runs is valid run history committed rows = record {
+ran_solo b dag log sinks runs is valid run turns committed rows = record {
   faultless = sym (keeps_faults b.job runs.chain) ∙ keeps_none b.job runs.chain;
   valid = subst (Valid b.flat) is valid;
-  history = history ∙ ap (λ x. solo_log b.settings (tasks_in (record { flat = b.flat; dag = x }))) is;
+  turns = subst (λ lines. SoloRun (plan_of b) b.settings lines log) (sym runs.script) (subst (λ x. SoloRun (record { flat = b.flat; dag = x }) b.settings [] log) is turns);
   run = subst (λ lines. IsDoneRun (plan_of b) b.settings lines log) (sym runs.script) (subst (λ x. IsDoneRun (record { flat = b.flat; dag = x }) b.settings [] log) is run);
   sinks = subst (λ x. written (record { flat = b.flat; dag = x }) b.settings log ≡ job_rows b.job) is (sym committed ∙ rows ∙ same_rows b runs);
 }
 
 module _ {E : Type 0} (b : Bundle) (dag : IrDag) (p : PlanForm) (runs : IsRunnable b) (of : dag ≡ dag_of b) (valid : Valid b.flat dag) (is : p ≡ record { flat = b.flat; dag = dag }) where
-  pub ran : (r : Result RunEnd E) → IfOk r (λ end. IsDoneRun p b.settings [] end.log) → IfOk r (λ end. end.log ≡ solo_log b.settings (tasks_in p)) → IfOk r (λ end. end.sinks ≡ written p b.settings end.log) → IfOk r (λ end. end.sinks ≡ flat_rows p.flat)
+  pub ran : (r : Result RunEnd E) → IfOk r (λ end. IsDoneRun p b.settings [] end.log) → IfOk r (λ end. SoloRun p b.settings [] end.log) → IfOk r (λ end. end.sinks ≡ written p b.settings end.log) → IfOk r (λ end. end.sinks ≡ flat_rows p.flat)
       → IfOk r (λ end. IsSoloDone b end.log)
-  ran (Ok end) run history committed rows =
-      ran_solo b dag end.log end.sinks runs of valid (subst (λ p. IsDoneRun p b.settings [] end.log) is run) (subst (λ p. end.log ≡ solo_log b.settings (tasks_in p)) is history)
+  ran (Ok end) run turns committed rows =
+      ran_solo b dag end.log end.sinks runs of valid (subst (λ p. IsDoneRun p b.settings [] end.log) is run) (subst (λ p. SoloRun p b.settings [] end.log) is turns)
       (subst (λ p. end.sinks ≡ written p b.settings end.log) is committed) (subst (λ p. end.sinks ≡ flat_rows p.flat) is rows)
-  ran (Err e) run history committed rows = tt
+  ran (Err e) run turns committed rows = tt
 
   pub ran_rows : (r : Result RunEnd E) → IfOk r (λ end. end.sinks ≡ flat_rows p.flat) → IfOk r (λ end. end.sinks ≡ job_rows b.job)
   ran_rows (Ok end) rows = subst (λ p. end.sinks ≡ flat_rows p.flat) is rows ∙ same_rows b runs

@@ -6,11 +6,11 @@ use Rattle.nemo_ir.specs.Valid.{Valid, FirstFailure}
 use Rattle.nemo_ir.specs.declared.dag.IrDag.{IrDag}
 use Rattle.nemo_job.specs.Sinks.{job_faults, job_rows}
 use Rattle.nemo_laws.specs.Done.{IsDoneRun}
+use Rattle.nemo_laws.specs.Solo.{SoloRun}
 use Rattle.nemo_laws.specs.Written.{written}
 use Rattle.nemo_report.specs.Texts.{sinks_lines, text_of}
 use Rattle.nemo_transform.specs.Gives.{Row}
 use Rattle.nemo_value.specs.declared.expr.Kind.{Kind}
-use Rattle.nemo_replay.specs.StageRun.{solo_log, tasks_in}
 use Rattle.nemo_top.specs.Bundles.{dag_of, plan_of}
 use Rattle.nemo_top.specs.Statuses.{Alone, accepted_line, last_lines}
 use Rattle.nemo_top.specs.declared.word.Command.{Command}
@@ -20,13 +20,14 @@ use Rattle.nemo_top.specs.declared.status.Status.TheVariants.{Done, Usage, ReadF
 
 ---- done
 
--- Where `solo` is done, no fault reaches a sink of the job, the DAG is valid, and the history is the one of the bundle's
--- plan and settings. It is legal for that plan, made of holds with the bundle's script, and ends in Finish, with each block
--- of each sink from one commit. These blocks are what the job gives to its sinks.
+-- Where `solo` is done, no fault reaches a sink of the job, the DAG is valid, and the history is that of a run on one thread
+-- of the bundle's plan with its settings and its script, of which there is one that ends. It is legal for that plan, made of
+-- holds with that script, and ends in Finish, with each block of each sink from one commit. These blocks are what the job
+-- gives to its sinks.
 pub record IsSoloDone (b : Bundle) (log : List Event) : Type 0 where
   pub faultless : job_faults b.job ≡ []
   pub valid : Valid b.flat (dag_of b)
-  pub history : log ≡ solo_log b.settings (tasks_in (plan_of b))
+  pub turns : SoloRun (plan_of b) b.settings b.script log
   pub run : IsDoneRun (plan_of b) b.settings b.script log
   pub sinks : written (plan_of b) b.settings log ≡ job_rows b.job
 

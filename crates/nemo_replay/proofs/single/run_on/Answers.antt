@@ -1,9 +1,11 @@
-use Rattle.std.proofs.Common.{◌≡◌, ◌∙◌, sym, subst, ◌≤◌, Some, IfOk, length}
+use Rattle.std.proofs.Common.{◌≡◌, ◌∙◌, ap, [], ◌∷◌, ◌++◌, sym, subst, ◌≤◌, Some, IfOk, length}
 use Rattle.std.specs.Prelude.{IsSome}
+use Rattle.nemo_core.specs.declared.event.Event.TheVariants.{Finish}
+use Rattle.nemo_replay.specs.EndSink.{end_name, one_sink}
 use Rattle.nemo_replay.specs.StageRun.{IsOneStage}
-use Rattle.nemo_replay.specs.Ready.{end_name, one_sink}
 use Rattle.nemo_replay.proofs.OneStage.{stage_plan}
-use Rattle.nemo_replay.proofs.Runs.{ended_sinks, ended_written, has_end, may_finish, on_ok, runs_well, start_core}
+use Rattle.nemo_replay.proofs.Runs.{ended_sinks, ended_written, has_end, may_finish, on_ok, start_core}
+use Rattle.nemo_replay.proofs.SoloRuns.{solo_runs}
 use Rattle.nemo_replay.proofs.single.run_on.Goals as goal
 
 pub task_count-tasks-requires : goal.task_count-tasks-requires
@@ -32,7 +34,14 @@ end_sink-requires c =
 pub returns-clause-run : goal.returns-clause-run
 returns-clause-run c =
     let o : IsOneStage c.args.plan.now = record { flat = c.flat-flat.ensures.keeps; line = c.requires.line; valid = c.dag.ensures.valid; uniform = c.requires.uniform } in
-    on_ok c.end_sink.result (runs_well c.args.plan.now c.args.settings c.take.new.run.log.items o c.keeps.ensures c.requires.faultless (c.in_ok-take.ensures.log ∙ c.in_ok-rows.ensures.log)).done
+    let well = solo_runs c.args.plan.now c.args.settings o c.keeps.ensures c.requires.faultless c.take.new.run.log.items (c.in_ok-take.ensures.log ∙ ap (λ es. es ++ Finish ∷ []) c.in_ok-rows.ensures.log) in
+    on_ok c.end_sink.result well.done
+
+pub returns-clause-turns : goal.returns-clause-turns
+returns-clause-turns c =
+    let o : IsOneStage c.args.plan.now = record { flat = c.flat-flat.ensures.keeps; line = c.requires.line; valid = c.dag.ensures.valid; uniform = c.requires.uniform } in
+    let well = solo_runs c.args.plan.now c.args.settings o c.keeps.ensures c.requires.faultless c.take.new.run.log.items (c.in_ok-take.ensures.log ∙ ap (λ es. es ++ Finish ∷ []) c.in_ok-rows.ensures.log) in
+    on_ok c.end_sink.result well.run
 
 pub returns-clause-sinks : goal.returns-clause-sinks
 returns-clause-sinks c =
@@ -43,6 +52,5 @@ returns-clause-sinks c =
 pub returns-clause-committed : goal.returns-clause-committed
 returns-clause-committed c =
     let o : IsOneStage c.args.plan.now = record { flat = c.flat-flat.ensures.keeps; line = c.requires.line; valid = c.dag.ensures.valid; uniform = c.requires.uniform } in
-    ended_written c.args.plan.now c.args.settings c.take.new.run.log.items c.end_sink.result
-    (runs_well c.args.plan.now c.args.settings c.take.new.run.log.items o c.keeps.ensures c.requires.faultless (c.in_ok-take.ensures.log ∙ c.in_ok-rows.ensures.log))
-    (returns-clause-sinks c)
+    let well = solo_runs c.args.plan.now c.args.settings o c.keeps.ensures c.requires.faultless c.take.new.run.log.items (c.in_ok-take.ensures.log ∙ ap (λ es. es ++ Finish ∷ []) c.in_ok-rows.ensures.log) in
+    ended_written c.args.plan.now c.args.settings c.take.new.run.log.items c.end_sink.result well (returns-clause-sinks c)

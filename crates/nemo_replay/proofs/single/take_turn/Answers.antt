@@ -1,7 +1,6 @@
 use Rattle.std.proofs.Common.{◌≡◌, ◌∙◌, ap, sym, subst, ◌<◌, []}
 use Rattle.std.specs.List.{AllPass}
-use Rattle.nemo_replay.specs.StageRun.{task_rows, tasks_in}
-use Rattle.nemo_replay.specs.Ready.{is_served}
+use Rattle.nemo_replay.specs.StageRun.{is_served, task_rows, tasks_in}
 use Rattle.nemo_replay.proofs.Turns.{all_served, is_some_task, next_launchable, turn_allowed, turn_core, turn_launched, turn_log}
 use Rattle.nemo_replay.proofs.single.take_turn.Goals as goal
 

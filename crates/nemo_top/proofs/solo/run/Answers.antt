@@ -4,7 +4,7 @@ use Rattle.nemo_top.proofs.solo.run.Goals as goal
 pub returns-clause-done : goal.returns-clause-done
 returns-clause-done c =
     let e = c.solo.ensures in
-    ran c.args.bundle c.args.dag _ c.requires.bundle c.requires.dag c.requires.valid c.in_ok-plan.ensures.plan c.solo.result e.run e.log e.committed e.sinks
+    ran c.args.bundle c.args.dag _ c.requires.bundle c.requires.dag c.requires.valid c.in_ok-plan.ensures.plan c.solo.result e.run e.turns e.committed e.sinks
 
 pub returns-clause-sinks : goal.returns-clause-sinks
 returns-clause-sinks c = ran_rows c.args.bundle c.args.dag _ c.requires.bundle c.requires.dag c.requires.valid c.in_ok-plan.ensures.plan c.solo.result c.solo.ensures.sinks
